@@ -1,0 +1,7 @@
+pub mod Refusals
+pub mod Format
+pub mod Control
+pub mod Store
+pub mod Bus
+pub mod Alu
+pub mod AluTable
