@@ -1,0 +1,80 @@
+// Control words in the lines of a text.
+ghost use mathlib.Core.Path.{_≡_};
+ghost use Prim.Native.Nat.{_^_, _≤_, min};
+ghost use Rattle.microword.specs.Line.{prefixed, unprefixed, Read-as, Taken-apart};
+ghost use Rattle.std.specs.Text.{digitValue};
+use datapath::ControlRefusal;
+use datapath::ControlWord;
+use datapath::decode;
+use datapath::encode;
+
+// The value of a digit or a letter; 36 for any other character.
+fn digit(character: u8) -> u64
+    ensures { λ r. ⌜ r ≡ digitValue character ⌝ }
+{
+    match character {
+        b'0'..=b'9' => (character - b'0') as u64,
+        b'A'..=b'Z' => (character - b'A') as u64 + 10,
+        b'a'..=b'z' => (character - b'a') as u64 + 10,
+        _ => 36,
+    }
+}
+
+// Whether the text begins with 0x.
+fn has_prefix(text: &[u8]) -> bool
+    ensures { λ r. ⌜ r ≡ prefixed (now (text .entry)) ⌝ }
+{
+    text.len() >= 2 && text[0] == b'0' && (text[1] == b'x' || text[1] == b'X')
+}
+
+// The text without the prefix 0x.
+fn without_prefix(text: &[u8]) -> &[u8]
+    ensures { λ r. ⌜ now r ≡ unprefixed (now (text .entry)) ⌝ }
+{
+    if !has_prefix(text) {
+        return text;
+    }
+    let (_, digits) = text.split_at(2);
+    digits
+}
+
+// The number of a hexadecimal numeral, if the digits are one.
+fn read_digits(digits: &[u8]) -> Option<u64>
+    ensures { λ r. ⌜ Read-as (now (digits .entry)) r ⌝ }
+{
+    if digits.is_empty() {
+        return None;
+    }
+    let mut number: u64 = 0;
+    for character in digits {
+        let value = digit(*character);
+        if value >= 16 {
+            return None;
+        }
+        number = (number * 16 + value).min(0x10_0000_0000);
+    }
+    Some(number)
+}
+
+// The number that a line holds, with blanks around it or none, with the prefix 0x or without; none where it holds no hexadecimal number.
+pub fn number_in(line: &[u8]) -> Option<u64> {
+    read_digits(without_prefix(line.trim_ascii()))
+}
+
+// A number's control word, and the number that the word gives back.
+pub fn take_apart(number: u64) -> Result<(ControlWord, u64), ControlRefusal>
+    ensures { λ r. ⌜ Taken-apart number r ⌝ }
+{
+    let word = decode(number)?;
+    let back = encode(&word)?;
+    Ok((word, back))
+}
+
+// What a refusal means.
+pub fn meaning(refusal: ControlRefusal) -> &'static str {
+    match refusal {
+        ControlRefusal::TooWide => "the number is 2^36 or more",
+        ControlRefusal::TwoShifts => "SLL8 with SRA1",
+        ControlRefusal::TwoAccesses => "WRITE with READ",
+    }
+}
