@@ -1,12 +1,19 @@
 // Control words in the lines of a text.
 ghost use mathlib.Core.Path.{_≡_};
 ghost use Prim.Native.Nat.{_^_, _≤_, min};
-ghost use Rattle.microword.specs.Line.{prefixed, unprefixed, Read-as, Taken-apart};
+ghost use Rattle.microword.specs.Line.{prefixed, unprefixed, Read-as, Taken-apart, meaningText, wordReport, lineReport};
+ghost use Rattle.datapath.specs.Control.{decodeOf};
+ghost use Rattle.std.specs.Of.String.{string-bytes};
+ghost use Rattle.std.specs.Vec.{made};
 ghost use Rattle.std.specs.Text.{digitValue};
 use datapath::ControlRefusal;
 use datapath::ControlWord;
 use datapath::decode;
 use datapath::encode;
+use notation::operations_text;
+use notation::word_text;
+use std::alloc::AllocError;
+use std::alloc::Global;
 
 // The value of a digit or a letter; 36 for any other character.
 fn digit(character: u8) -> u64
@@ -56,13 +63,15 @@ fn read_digits(digits: &[u8]) -> Option<u64>
     Some(number)
 }
 
-// The number that a line holds, with blanks around it or none, with the prefix 0x or without; none where it holds no hexadecimal number.
-pub fn number_in(line: &[u8]) -> Option<u64> {
-    read_digits(without_prefix(line.trim_ascii()))
+// The number of a text, with the prefix 0x or without; none where it is no hexadecimal number.
+pub fn number_in(text: &[u8]) -> Option<u64>
+    ensures { λ r. ⌜ Read-as (unprefixed (now (text .entry))) r ⌝ }
+{
+    read_digits(without_prefix(text))
 }
 
 // A number's control word, and the number that the word gives back.
-pub fn take_apart(number: u64) -> Result<(ControlWord, u64), ControlRefusal>
+fn take_apart(number: u64) -> Result<(ControlWord, u64), ControlRefusal>
     ensures { λ r. ⌜ Taken-apart number r ⌝ }
 {
     let word = decode(number)?;
@@ -71,10 +80,40 @@ pub fn take_apart(number: u64) -> Result<(ControlWord, u64), ControlRefusal>
 }
 
 // What a refusal means.
-pub fn meaning(refusal: ControlRefusal) -> &'static str {
+fn meaning(refusal: ControlRefusal) -> &'static str
+    ensures { λ r. ⌜ now r ≡ meaningText refusal ⌝ }
+{
     match refusal {
         ControlRefusal::TooWide => "the number is 2^36 or more",
         ControlRefusal::TwoShifts => "SLL8 with SRA1",
         ControlRefusal::TwoAccesses => "WRITE with READ",
+    }
+}
+
+// What is said of a number.
+fn word_report(heap: Global, number: u64) -> Result<String, AllocError>
+    ensures { λ r. ⌜ made r (λ s. string-bytes s ≡ wordReport number (decodeOf number)) ⌝ }
+{
+    match take_apart(number) {
+        Ok((word, back)) => {
+            let operations = operations_text(heap, &word)?;
+            let bits = word_text(heap, back)?;
+            format!(heap, "{operations} [{bits}]")
+        }
+        Err(refusal) => {
+            let number = refusal.number();
+            let why = meaning(refusal);
+            format!(heap, "refused {number}: {why}")
+        }
+    }
+}
+
+// What is said of a line that holds a number, or none.
+pub fn line_report(heap: Global, number: Option<u64>) -> Result<String, AllocError>
+    ensures { λ r. ⌜ made r (λ s. string-bytes s ≡ lineReport number) ⌝ }
+{
+    match number {
+        Some(number) => word_report(heap, number),
+        None => String::from_str(heap, "not a hexadecimal number"),
     }
 }

@@ -32,9 +32,10 @@ loop-character-again c =
     let text = c .args .digits .now in
     let i = c .loop-character .character-index in
     let h : i < length text = c .loop-character-test .taken in
-    let d : digitValue (getD text i 0) < 16 = omega (arith, c .digit-value .ensures) in
-    (digits-more 16 text i h (c .loop-character .inv .0) d,
-    omega (arith, value-more 16 text i h, c .loop-character .inv .1, c .digit-value .ensures, c .min-number .ensures, kept-more (value 16 (take i text)) (c .digit-value .result)))
+    let d : digitValue (getD text i 0) < 16 = omega (arith, c .digit-value .ensures) in (
+      digits-more 16 text i h (c .loop-character .inv .0) d,
+      omega (arith, value-more 16 text i h, c .loop-character .inv .1, c .digit-value .ensures, c .min-number .ensures, kept-more (value 16 (take i text)) (c .digit-value .result)),
+    )
 
 pub returns : need.returns
 returns c =
