@@ -3,9 +3,11 @@ use mathlib.Core.Bool.{Bool, true, cond, not}
 use mathlib.Core.List.{List, [], _∷_}
 use mathlib.Core.Path.{_≡_}
 use Prim.Native.Nat.{ℕ, _+_}
-use lib.Dec.{eqb}
+use lib.Dec.{eqb, ltb}
 use lib.ListN.{length, getD}
 use Rattle.std.specs.Results.{isOk}
+use Rattle.std.specs.declared.option.Option.{Option}
+use Rattle.std.specs.declared.option.Option.the-variants.{Some, None}
 use Rattle.std.specs.declared.result.Result.{Result}
 use Rattle.std.specs.declared.result.Result.the-variants.{Ok, Err}
 use Rattle.datapath.specs.declared.control.ControlWord.{ControlWord}
@@ -35,3 +37,7 @@ fillOf numbers = cond (not (eqb (length numbers) 512)) (Err WrongCount) (firstRe
 -- What the store holds after a fill: the numbers, or what it held where the fill is refused.
 abbrev pub filledOf : (held numbers : List ℕ) → List ℕ
 filledOf held numbers = cond (isOk (fillOf numbers)) numbers held
+
+-- The number at an address of the store; there is none above 511.
+abbrev pub numberAt : List ℕ → ℕ → Option ℕ
+numberAt held address = cond (ltb address 512) (Some (getD held address 0)) None

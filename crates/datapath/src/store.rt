@@ -2,7 +2,7 @@
 ghost use mathlib.Core.Path.{_≡_};
 ghost use lib.ListN.{length, replicate};
 ghost use Rattle.std.specs.declared.result.Result.the-variants.{Ok};
-ghost use Rattle.datapath.specs.Store.{All-accepted, firstRefused, fillOf, filledOf};
+ghost use Rattle.datapath.specs.Store.{All-accepted, firstRefused, fillOf, filledOf, numberAt};
 use crate::FillRefusal;
 use crate::decode;
 
@@ -32,6 +32,17 @@ impl ControlStore {
         check_numbers(numbers)?;
         self.numbers = copied(numbers);
         Ok(())
+    }
+
+    // The number at an address; none above 511.
+    pub fn number(&self, address: u16) -> Option<u64>
+        ensures { λ r. ⌜ r ≡ numberAt (now (self .entry) .numbers) address ⌝ }
+    {
+        if address < 512 {
+            Some(self.numbers[address as usize])
+        } else {
+            None
+        }
     }
 }
 

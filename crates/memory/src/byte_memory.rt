@@ -1,7 +1,7 @@
 // A memory over a lent buffer of bytes, four to a word, the most significant first.
 ghost use mathlib.Core.Path.{_≡_};
 ghost use denote.Ref.{name};
-ghost use Prim.Native.Nat.{_<_, _≤_};
+ghost use Prim.Native.Nat.{_^_, _<_, _≤_};
 ghost use lib.ListN.{length, getD, set};
 ghost use Rattle.memory.specs.Buffers.{byteMeaning, byteLoan};
 ghost use Rattle.memory.specs.Cells.{makeOf, madeOf, usable, wordsOf};
@@ -19,7 +19,7 @@ pub struct ByteMemory<'a> {
 impl<'a> ByteMemory<'a> {
     // A memory over the buffer as it is, with mark 0; of size 0 where the buffer is refused.
     pub fn make(bytes: &'a mut [u8]) -> ByteMemory<'a>
-        ensures meaning { λ r. ⌜ byteMeaning r ≡ madeOf 4 256 (now (bytes .entry)) ⌝ }
+        ensures meaning { λ r. ⌜ byteMeaning r ≡ madeOf 4 (2 ^ 8) (now (bytes .entry)) ⌝ }
         ensures lender { λ r. ⌜ name (r .bytes) ≡ name (bytes .entry) ⌝ }
         ensures buffer { λ r. ⌜ now (r .bytes) ≡ now (bytes .entry) ⌝ }
     {
@@ -51,7 +51,7 @@ impl<'a> ByteMemory<'a> {
 
 // How many words the memory over these bytes has.
 fn size_over(bytes: &[u8]) -> u32
-    ensures value { λ r. ⌜ r ≡ length (usable 4 256 (now (bytes .entry))) ⌝ }
+    ensures value { λ r. ⌜ r ≡ length (usable 4 (2 ^ 8) (now (bytes .entry))) ⌝ }
     ensures few { λ r. ⌜ r ≤ 1048576 ⌝ }
 {
     if ByteMemory::refusal(bytes).is_some() {
@@ -63,8 +63,8 @@ fn size_over(bytes: &[u8]) -> u32
 
 // The word at an address, of which there are enough.
 fn word_at(bytes: &[u8], address: u32) -> u32
-    requires { ⌜ address < length (wordsOf 4 256 (now bytes)) ⌝ }
-    ensures { λ r. ⌜ r ≡ getD (wordsOf 4 256 (now (bytes .entry))) address 0 ⌝ }
+    requires { ⌜ address < length (wordsOf 4 (2 ^ 8) (now bytes)) ⌝ }
+    ensures { λ r. ⌜ r ≡ getD (wordsOf 4 (2 ^ 8) (now (bytes .entry))) address 0 ⌝ }
 {
     let at = 4 * address as usize;
     u32::from_be_bytes([bytes[at], bytes[at + 1], bytes[at + 2], bytes[at + 3]])
@@ -72,8 +72,8 @@ fn word_at(bytes: &[u8], address: u32) -> u32
 
 // Replaces the word at an address, of which there are enough.
 fn put_word(bytes: &mut [u8], address: u32, word: u32)
-    requires { ⌜ address < length (wordsOf 4 256 (now bytes)) ⌝ }
-    ensures { λ _. ⌜ wordsOf 4 256 (now (bytes .exit)) ≡ set (wordsOf 4 256 (now (bytes .entry))) address word ⌝ }
+    requires { ⌜ address < length (wordsOf 4 (2 ^ 8) (now bytes)) ⌝ }
+    ensures { λ _. ⌜ wordsOf 4 (2 ^ 8) (now (bytes .exit)) ≡ set (wordsOf 4 (2 ^ 8) (now (bytes .entry))) address word ⌝ }
 {
     let at = 4 * address as usize;
     let cells = word.to_be_bytes();

@@ -1,11 +1,10 @@
 // A memory over a lent buffer of words.
 ghost use mathlib.Core.Path.{_≡_};
-ghost use Prim.Native.Nat.{_^_};
+ghost use Prim.Native.Nat.{_^_, _<_, _≤_};
 ghost use denote.Ref.{name};
-ghost use lib.ListN.{length};
+ghost use lib.ListN.{length, getD, set};
 ghost use Rattle.memory.specs.Buffers.{wordMeaning, wordLoan};
-ghost use Rattle.memory.specs.Cells.{makeOf, madeOf};
-ghost use Rattle.memory.specs.Meaning.{sizeOf};
+ghost use Rattle.memory.specs.Cells.{makeOf, madeOf, usable, wordsOf};
 use crate::AccessRefusal;
 use crate::MakeRefusal;
 use crate::Memory;
@@ -48,17 +47,41 @@ impl<'a> WordMemory<'a> {
     }
 }
 
+// How many words the memory over these words has.
+fn size_over(words: &[u32]) -> u32
+    ensures value { λ r. ⌜ r ≡ length (usable 1 (2 ^ 32) (now (words .entry))) ⌝ }
+    ensures few { λ r. ⌜ r ≤ 1048576 ⌝ }
+{
+    if WordMemory::refusal(words).is_some() {
+        0
+    } else {
+        words.len() as u32
+    }
+}
+
+// The word at an address, of which there are enough.
+fn word_at(words: &[u32], address: u32) -> u32
+    requires { ⌜ address < length (wordsOf 1 (2 ^ 32) (now words)) ⌝ }
+    ensures { λ r. ⌜ r ≡ getD (wordsOf 1 (2 ^ 32) (now (words .entry))) address 0 ⌝ }
+{
+    words[address as usize]
+}
+
+// Replaces the word at an address, of which there are enough.
+fn put_word(words: &mut [u32], address: u32, word: u32)
+    requires { ⌜ address < length (wordsOf 1 (2 ^ 32) (now words)) ⌝ }
+    ensures { λ _. ⌜ wordsOf 1 (2 ^ 32) (now (words .exit)) ≡ set (wordsOf 1 (2 ^ 32) (now (words .entry))) address word ⌝ }
+{
+    words[address as usize] = word;
+}
+
 pub impl Memory for WordMemory<'_> as WordMemoryMemory {
     ghost meaning = { wordMeaning };
 
     ghost loan = { wordLoan };
 
     fn size(&self) -> u32 {
-        if WordMemory::refusal(self.words).is_some() {
-            0
-        } else {
-            self.words.len() as u32
-        }
+        size_over(self.words)
     }
 
     fn mark(&self) -> u32 {
@@ -69,7 +92,7 @@ pub impl Memory for WordMemory<'_> as WordMemoryMemory {
         if address >= self.size() {
             return Err(AccessRefusal::OutOfRange);
         }
-        Ok(self.words[address as usize])
+        Ok(word_at(self.words, address))
     }
 
     fn write(&mut self, address: u32, word: u32) -> Result<(), AccessRefusal> {
@@ -79,7 +102,7 @@ pub impl Memory for WordMemory<'_> as WordMemoryMemory {
         if address < self.mark {
             return Err(AccessRefusal::Protected);
         }
-        self.words[address as usize] = word;
+        put_word(self.words, address, word);
         Ok(())
     }
 

@@ -48,7 +48,7 @@ fn digits(heap: Global, number: u64, count: u32) -> Result<String, AllocError>
 }
 
 // An address of the control store.
-pub fn address_text(heap: Global, address: u16) -> Result<String, AllocError>
+pub(crate) fn address_text(heap: Global, address: u16) -> Result<String, AllocError>
     ensures { λ r. ⌜ made r (λ s. string-bytes s ≡ addressText address) ⌝ }
 {
     let count = if address >= 0x1000 { 4 } else { 3 };

@@ -13,7 +13,7 @@ use std::alloc::AllocError;
 use std::alloc::Global;
 
 // A text where a flag is on, else nothing.
-pub fn text_when(on: bool, text: &'static str) -> &'static str
+pub(crate) fn text_when(on: bool, text: &'static str) -> &'static str
     ensures { λ r. ⌜ now r ≡ when on (now (text .entry)) ⌝ }
 {
     if on { text } else { "" }
@@ -113,7 +113,7 @@ fn result_text(heap: Global, word: &ControlWord, source: &'static str) -> Result
 }
 
 // The value on the C bus.
-pub fn value_text(heap: Global, word: &ControlWord) -> Result<String, AllocError>
+pub(crate) fn value_text(heap: Global, word: &ControlWord) -> Result<String, AllocError>
     ensures { λ r. ⌜ made r (λ s. string-bytes s ≡ valueText (now (word .entry))) ⌝ }
 {
     let result = result_text(heap, word, source_text(Source::of(word.b)))?;
