@@ -4,7 +4,7 @@ ghost use Rattle.datapath.specs.AluTable.{digit, table, signalsOf, functionIn,
 use crate::ControlWord;
 
 // What the ALU performs; A is H and B the bus.
-#[derive(Clone, Copy, PartialEq, Eq, Debug)]
+#[derive(Clone, Copy)]
 pub enum Function {
     A,
     B,

@@ -4,7 +4,7 @@ ghost use Rattle.datapath.specs.Bus.{sourceOf, busOf};
 use crate::Registers;
 
 // What drives the bus.
-#[derive(Clone, Copy, PartialEq, Eq, Debug)]
+#[derive(Clone, Copy)]
 pub enum Source {
     Mdr,
     Pc,

@@ -3,7 +3,7 @@ ghost use mathlib.Core.Path.{_≡_};
 ghost use Rattle.datapath.specs.Refusals.{controlNumber, fillNumber};
 
 // Why decode or encode refuses.
-#[derive(Clone, Copy, PartialEq, Eq, Debug)]
+#[derive(Clone, Copy)]
 pub enum ControlRefusal {
     // decode: a number of 2^36 or more; encode: NEXT above 511 or B above 15
     TooWide,
@@ -14,7 +14,7 @@ pub enum ControlRefusal {
 }
 
 // Why a control store is not filled.
-#[derive(Clone, Copy, PartialEq, Eq, Debug)]
+#[derive(Clone, Copy)]
 pub enum FillRefusal {
     // another count than 512
     WrongCount,

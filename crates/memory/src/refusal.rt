@@ -3,7 +3,7 @@ ghost use mathlib.Core.Path.{_≡_};
 ghost use Rattle.memory.specs.Refusals.{makeNumber, accessNumber, protectNumber};
 
 // Why a buffer makes no memory.
-#[derive(Clone, Copy, PartialEq, Eq, Debug)]
+#[derive(Clone, Copy)]
 pub enum MakeRefusal {
     // fewer than 16 words or more than 1,048,576
     WrongSize,
@@ -12,7 +12,7 @@ pub enum MakeRefusal {
 }
 
 // Why a word is neither read nor written.
-#[derive(Clone, Copy, PartialEq, Eq, Debug)]
+#[derive(Clone, Copy)]
 pub enum AccessRefusal {
     // an address that is not below the size
     OutOfRange,
@@ -21,7 +21,7 @@ pub enum AccessRefusal {
 }
 
 // Why the mark stays.
-#[derive(Clone, Copy, PartialEq, Eq, Debug)]
+#[derive(Clone, Copy)]
 pub enum ProtectRefusal {
     // a mark below the present one or above the size
     WrongMark,
