@@ -5,3 +5,6 @@ pub mod Store
 pub mod Bus
 pub mod Alu
 pub mod AluTable
+pub mod Cycle
+pub mod Go
+pub mod Whole

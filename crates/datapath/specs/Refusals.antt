@@ -1,9 +1,11 @@
--- The refusals of control words and of the control store, by their numbers in the manual.
+-- The refusals of control words, of the control store and of power, by their numbers in the manual.
 use Prim.Native.Nat.{ℕ}
 use Rattle.datapath.specs.declared.refusal.ControlRefusal.{ControlRefusal}
 use Rattle.datapath.specs.declared.refusal.ControlRefusal.the-variants.{TooWide, TwoShifts, TwoAccesses}
 use Rattle.datapath.specs.declared.refusal.FillRefusal.{FillRefusal}
 use Rattle.datapath.specs.declared.refusal.FillRefusal.the-variants.{WrongCount, WrongWord}
+use Rattle.datapath.specs.declared.refusal.PowerRefusal.{PowerRefusal}
+use Rattle.datapath.specs.declared.refusal.PowerRefusal.the-variants.{WrongMpc}
 
 -- Decode and encode: 7 for a field or a number that is too wide, 8 for SLL8 with SRA1, 9 for WRITE with READ.
 abbrev pub controlNumber : ControlRefusal → ℕ
@@ -15,3 +17,7 @@ controlNumber TwoAccesses = 9
 abbrev pub fillNumber : FillRefusal → ℕ
 fillNumber WrongCount = 10
 fillNumber (WrongWord address cause) = controlNumber cause
+
+-- Power: 11 for an MPC above 511.
+abbrev pub powerNumber : PowerRefusal → ℕ
+powerNumber WrongMpc = 11

@@ -33,7 +33,7 @@ fn c_bits(number: u64) -> CBits
 }
 
 // The fields of a number of 36 bits, whether or not its flags clash.
-fn fields(number: u64) -> ControlWord
+pub(crate) fn fields(number: u64) -> ControlWord
     requires { ⌜ number < 2 ^ 36 ⌝ }
     ensures value { λ r. ⌜ r ≡ fieldsOf number ⌝ }
     ensures back { λ r. ⌜ (Unclashed r → encodeOf r ≡ Ok number) ⌝ }

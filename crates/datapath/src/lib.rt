@@ -1,9 +1,15 @@
-// The datapath of the Mic-1: control words, the control store, the B bus, the ALU and the shifter.
+// The datapath of the Mic-1: control words, the control store, the B bus, the ALU, the shifter, and the cycle.
+mod advance;
 mod alu_table;
 mod arithmetic;
 mod b_bus;
 mod codec;
+mod complete;
 mod control;
+mod cycles;
+mod datapath_type;
+mod machine_state;
+mod pending;
 mod refusal;
 mod register_file;
 mod store;
@@ -17,7 +23,15 @@ pub use codec::decode;
 pub use codec::encode;
 pub use control::CBits;
 pub use control::ControlWord;
+pub use cycles::power_refusal;
+pub use datapath_type::Datapath;
+pub use machine_state::State;
+pub use pending::DataAccess;
+pub use pending::Fault;
+pub use pending::FetchAccess;
+pub use pending::Port;
 pub use refusal::ControlRefusal;
 pub use refusal::FillRefusal;
+pub use refusal::PowerRefusal;
 pub use register_file::Registers;
 pub use store::ControlStore;

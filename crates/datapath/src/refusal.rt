@@ -1,6 +1,6 @@
-// Why control words are refused, and the number of each refusal.
+// Why control words and machines are refused, and the number of each refusal.
 ghost use mathlib.Core.Path.{_≡_};
-ghost use Rattle.datapath.specs.Refusals.{controlNumber, fillNumber};
+ghost use Rattle.datapath.specs.Refusals.{controlNumber, fillNumber, powerNumber};
 
 // Why decode or encode refuses.
 #[derive(Clone, Copy)]
@@ -22,6 +22,13 @@ pub enum FillRefusal {
     WrongWord { address: u16, cause: ControlRefusal },
 }
 
+// Why a machine does not start where it is told to.
+#[derive(Clone, Copy)]
+pub enum PowerRefusal {
+    // MPC above 511
+    WrongMpc,
+}
+
 impl ControlRefusal {
     pub fn number(self) -> u32
         ensures { λ r. ⌜ r ≡ controlNumber self ⌝ }
@@ -41,6 +48,16 @@ impl FillRefusal {
         match self {
             FillRefusal::WrongCount => 10,
             FillRefusal::WrongWord { address: _, cause } => cause.number(),
+        }
+    }
+}
+
+impl PowerRefusal {
+    pub fn number(self) -> u32
+        ensures { λ r. ⌜ r ≡ powerNumber self ⌝ }
+    {
+        match self {
+            PowerRefusal::WrongMpc => 11,
         }
     }
 }

@@ -1,9 +1,13 @@
 // The control store.
 ghost use mathlib.Core.Path.{_≡_};
-ghost use lib.ListN.{length, replicate};
+ghost use Prim.Native.Nat.{_^_, _<_};
+ghost use lib.ListN.{length, getD, replicate};
+ghost use Rattle.datapath.specs.Control.{fieldsOf};
 ghost use Rattle.std.specs.declared.result.Result.the-variants.{Ok};
 ghost use Rattle.datapath.specs.Store.{All-accepted, firstRefused, fillOf, filledOf, numberAt};
+use crate::ControlWord;
 use crate::FillRefusal;
+use crate::codec::fields;
 use crate::decode;
 
 // 512 control words by their numbers, none of which decode refuses.
@@ -42,6 +46,18 @@ impl ControlStore {
             Some(self.numbers[address as usize])
         } else {
             None
+        }
+    }
+
+    // The control word at an address, and the word of the number 0 above 511.
+    pub(crate) fn word(&self, address: u16) -> ControlWord
+        ensures value { λ r. ⌜ r ≡ fieldsOf (getD (now (self .entry) .numbers) address 0) ⌝ }
+        ensures within { λ r. ⌜ r .next < 2 ^ 9 ⌝ }
+    {
+        if address < 512 {
+            fields(self.numbers[address as usize])
+        } else {
+            fields(0)
         }
     }
 }
