@@ -11,8 +11,8 @@ use Rattle.std.specs.declared.result.Result.{Result}
 use Rattle.std.specs.declared.result.Result.the-variants.{Ok, Err}
 use Rattle.memory.specs.Meaning.{Meaning, readOf, writeOf, writtenOf}
 use Rattle.memory.specs.declared.refusal.AccessRefusal.{AccessRefusal}
-use Rattle.datapath.specs.declared.control.ControlWord.{ControlWord}
-use Rattle.datapath.specs.declared.register_file.Registers.{Registers}
+use Rattle.control.specs.declared.control.ControlWord.{ControlWord}
+use Rattle.control.specs.declared.register_file.Registers.{Registers}
 use Rattle.datapath.specs.declared.pending.DataAccess.{DataAccess}
 use Rattle.datapath.specs.declared.pending.DataAccess.the-variants.{Read as Reading, Write as Writing}
 use Rattle.datapath.specs.declared.pending.FetchAccess.{FetchAccess}
@@ -20,9 +20,9 @@ use Rattle.datapath.specs.declared.pending.Port.{Port}
 use Rattle.datapath.specs.declared.pending.Port.the-variants.{Fetch as FetchPort, Read as ReadPort, Write as WritePort}
 use Rattle.datapath.specs.declared.pending.Fault.{Fault}
 use Rattle.datapath.specs.declared.machine_state.State.{State}
-use Rattle.datapath.specs.Control.{fieldsOf}
-use Rattle.datapath.specs.Bus.{sourceOf, busOf}
-use Rattle.datapath.specs.Alu.{resultOf, negative, shiftOf}
+use Rattle.control.specs.Control.{fieldsOf}
+use Rattle.control.specs.Bus.{sourceOf, busOf}
+use Rattle.control.specs.Alu.{resultOf, negative, shiftOf}
 
 -- A machine: what its memory means, and its state.
 pub record Micro : Type 0 where

@@ -10,7 +10,7 @@ use Rattle.std.specs.declared.result.Result.the-variants.{Ok, Err}
 use Rattle.datapath.specs.declared.pending.Fault.{Fault}
 use Rattle.datapath.specs.declared.refusal.PowerRefusal.{PowerRefusal}
 use Rattle.datapath.specs.declared.refusal.PowerRefusal.the-variants.{WrongMpc}
-use Rattle.datapath.specs.declared.register_file.Registers.{Registers}
+use Rattle.control.specs.declared.register_file.Registers.{Registers}
 use Rattle.datapath.specs.declared.machine_state.State.{State}
 use Rattle.datapath.specs.Cycle.{Micro, cycleOf}
 

@@ -1,10 +1,4 @@
 pub mod Refusals
-pub mod Format
-pub mod Control
-pub mod Store
-pub mod Bus
-pub mod Alu
-pub mod AluTable
 pub mod Cycle
 pub mod Go
 pub mod Whole

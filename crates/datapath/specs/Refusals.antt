@@ -1,22 +1,7 @@
--- The refusals of control words, of the control store and of power, by their numbers in the manual.
+-- The refusal of power, by its number in the manual.
 use Prim.Native.Nat.{ℕ}
-use Rattle.datapath.specs.declared.refusal.ControlRefusal.{ControlRefusal}
-use Rattle.datapath.specs.declared.refusal.ControlRefusal.the-variants.{TooWide, TwoShifts, TwoAccesses}
-use Rattle.datapath.specs.declared.refusal.FillRefusal.{FillRefusal}
-use Rattle.datapath.specs.declared.refusal.FillRefusal.the-variants.{WrongCount, WrongWord}
 use Rattle.datapath.specs.declared.refusal.PowerRefusal.{PowerRefusal}
 use Rattle.datapath.specs.declared.refusal.PowerRefusal.the-variants.{WrongMpc}
-
--- Decode and encode: 7 for a field or a number that is too wide, 8 for SLL8 with SRA1, 9 for WRITE with READ.
-abbrev pub controlNumber : ControlRefusal → ℕ
-controlNumber TooWide = 7
-controlNumber TwoShifts = 8
-controlNumber TwoAccesses = 9
-
--- Fill: 10 for another count than 512; else decode's number, with the address.
-abbrev pub fillNumber : FillRefusal → ℕ
-fillNumber WrongCount = 10
-fillNumber (WrongWord address cause) = controlNumber cause
 
 -- Power: 11 for an MPC above 511.
 abbrev pub powerNumber : PowerRefusal → ℕ

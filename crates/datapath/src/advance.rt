@@ -3,15 +3,15 @@ ghost use mathlib.Core.Bool.{cond, _&&_, _||_};
 ghost use mathlib.Core.Path.{_≡_};
 ghost use Prim.Native.Nat.{_^_, _<_};
 ghost use Rattle.datapath.specs.Cycle.{successorOf, loadedOf, arriving, arrivedOf, begunData, begunFetch, advancedOf};
-use crate::ControlWord;
 use crate::DataAccess;
 use crate::FetchAccess;
-use crate::Registers;
-use crate::Source;
 use crate::State;
-use crate::alu;
-use crate::bus;
-use crate::shift;
+use control::ControlWord;
+use control::Registers;
+use control::Source;
+use control::alu;
+use control::bus;
+use control::shift;
 
 // A number where it is on, else 0.
 fn gated(on: bool, number: u16) -> u16

@@ -1,18 +1,19 @@
 // The datapath's calls.
 ghost use mathlib.Core.Path.{_≡_};
 ghost use Prim.Native.Nat.{_^_, _<_};
+ghost use Rattle.control.specs.Numbers.{numbersIn};
 ghost use Rattle.datapath.specs.Cycle.{cycleOf, answerOf, afterOf};
 ghost use Rattle.datapath.specs.Go.{goOf, powerRefusal, powerOf};
 ghost use Rattle.datapath.specs.Whole.{microOf};
-use crate::ControlStore;
 use crate::Datapath;
 use crate::Fault;
 use crate::PowerRefusal;
-use crate::Registers;
 use crate::State;
 use crate::advance::advance;
 use crate::complete::accessed;
 use crate::complete::fetched;
+use control::ControlStore;
+use control::Registers;
 use memory::Memory;
 
 // Why power refuses an MPC (11), if it does.
@@ -33,7 +34,7 @@ impl<M: Memory> Datapath<M> {
         ensures state { λ r. ⌜ r .state ≡ powerOf registers mbr mpc ⌝ }
         ensures within { λ r. ⌜ r .state .mpc < 2 ^ 9 ⌝ }
     {
-        let mpc = if mpc > 511 { 0 } else { mpc };
+        let mpc = if power_refusal(mpc).is_some() { 0 } else { mpc };
         Datapath {
             memory,
             state: State {
@@ -47,32 +48,10 @@ impl<M: Memory> Datapath<M> {
         }
     }
 
-    // The registers, MBR, MPC, the counter and what is under way.
-    pub fn state(&self) -> State
-        ensures { λ r. ⌜ r ≡ now (self .entry) .state ⌝ }
-    {
-        self.state
-    }
-
-    // The memory, to be looked at.
-    pub fn memory(&self) -> &M
-        ensures { λ r. ⌜ now r ≡ now (self .entry) .memory ⌝ }
-    {
-        &self.memory
-    }
-
-    // The memory, given back.
-    pub fn into_memory(self) -> M
-        ensures { λ r. ⌜ r ≡ self .memory ⌝ }
-    {
-        let Datapath { memory, state: _ } = self;
-        memory
-    }
-
     // One cycle; refused with a fault where the memory refuses what is under way, and then nothing changes.
     pub fn cycle(&mut self, store: &ControlStore) -> Result<(), Fault>
-        ensures answer { λ r. ⌜ r ≡ answerOf (cycleOf (now (store .entry) .numbers) (microOf (M·Memory .meaning) (now (self .entry)))) ⌝ }
-        ensures after { λ _. ⌜ microOf (M·Memory .meaning) (now (self .exit)) ≡ afterOf (microOf (M·Memory .meaning) (now (self .entry))) (cycleOf (now (store .entry) .numbers) (microOf (M·Memory .meaning) (now (self .entry)))) ⌝ }
+        ensures answer { λ r. ⌜ r ≡ answerOf (cycleOf (numbersIn (now (store .entry))) (microOf (M·Memory .meaning) (now (self .entry)))) ⌝ }
+        ensures after { λ _. ⌜ microOf (M·Memory .meaning) (now (self .exit)) ≡ afterOf (microOf (M·Memory .meaning) (now (self .entry))) (cycleOf (numbersIn (now (store .entry))) (microOf (M·Memory .meaning) (now (self .entry)))) ⌝ }
         ensures loan { λ _. ⌜ M·Memory .loan (now (self .exit) .memory) ≡ M·Memory .loan (now (self .entry) .memory) ⌝ }
         ensures within { λ _. ⌜ (now (self .entry) .state .mpc < 2 ^ 9 → now (self .exit) .state .mpc < 2 ^ 9) ⌝ }
     {
@@ -85,9 +64,9 @@ impl<M: Memory> Datapath<M> {
 
     // Up to n cycles; how many were done, and the fault of the one that stopped them.
     pub fn go(&mut self, store: &ControlStore, n: u64) -> (u64, Option<Fault>)
-        ensures done { λ r. ⌜ r .0 ≡ goOf (now (store .entry) .numbers) n (microOf (M·Memory .meaning) (now (self .entry))) .done ⌝ }
-        ensures fault { λ r. ⌜ r .1 ≡ goOf (now (store .entry) .numbers) n (microOf (M·Memory .meaning) (now (self .entry))) .fault ⌝ }
-        ensures after { λ _. ⌜ microOf (M·Memory .meaning) (now (self .exit)) ≡ goOf (now (store .entry) .numbers) n (microOf (M·Memory .meaning) (now (self .entry))) .after ⌝ }
+        ensures done { λ r. ⌜ r .0 ≡ goOf (numbersIn (now (store .entry))) n (microOf (M·Memory .meaning) (now (self .entry))) .done ⌝ }
+        ensures fault { λ r. ⌜ r .1 ≡ goOf (numbersIn (now (store .entry))) n (microOf (M·Memory .meaning) (now (self .entry))) .fault ⌝ }
+        ensures after { λ _. ⌜ microOf (M·Memory .meaning) (now (self .exit)) ≡ goOf (numbersIn (now (store .entry))) n (microOf (M·Memory .meaning) (now (self .entry))) .after ⌝ }
         ensures loan { λ _. ⌜ M·Memory .loan (now (self .exit) .memory) ≡ M·Memory .loan (now (self .entry) .memory) ⌝ }
         ensures within { λ _. ⌜ (now (self .entry) .state .mpc < 2 ^ 9 → now (self .exit) .state .mpc < 2 ^ 9) ⌝ }
     {
@@ -96,9 +75,9 @@ impl<M: Memory> Datapath<M> {
 
     // The same: the loop.
     fn repeat(&mut self, store: &ControlStore, n: u64) -> (u64, Option<Fault>)
-        ensures done { λ r. ⌜ r .0 ≡ goOf (now (store .entry) .numbers) n (microOf (M·Memory .meaning) (now (self .entry))) .done ⌝ }
-        ensures fault { λ r. ⌜ r .1 ≡ goOf (now (store .entry) .numbers) n (microOf (M·Memory .meaning) (now (self .entry))) .fault ⌝ }
-        ensures after { λ _. ⌜ microOf (M·Memory .meaning) (now (self .exit)) ≡ goOf (now (store .entry) .numbers) n (microOf (M·Memory .meaning) (now (self .entry))) .after ⌝ }
+        ensures done { λ r. ⌜ r .0 ≡ goOf (numbersIn (now (store .entry))) n (microOf (M·Memory .meaning) (now (self .entry))) .done ⌝ }
+        ensures fault { λ r. ⌜ r .1 ≡ goOf (numbersIn (now (store .entry))) n (microOf (M·Memory .meaning) (now (self .entry))) .fault ⌝ }
+        ensures after { λ _. ⌜ microOf (M·Memory .meaning) (now (self .exit)) ≡ goOf (numbersIn (now (store .entry))) n (microOf (M·Memory .meaning) (now (self .entry))) .after ⌝ }
         ensures loan { λ _. ⌜ M·Memory .loan (now (self .exit) .memory) ≡ M·Memory .loan (now (self .entry) .memory) ⌝ }
         ensures within { λ _. ⌜ (now (self .entry) .state .mpc < 2 ^ 9 → now (self .exit) .state .mpc < 2 ^ 9) ⌝ }
     {

@@ -1,28 +1,13 @@
-// The datapath of the Mic-1: control words, the control store, the B bus, the ALU, the shifter, and the cycle.
+// The datapath of the Mic-1: its state, and the cycle that moves it.
 mod advance;
-mod alu_table;
-mod arithmetic;
-mod b_bus;
-mod codec;
 mod complete;
-mod control;
 mod cycles;
 mod datapath_type;
+mod looks;
 mod machine_state;
 mod pending;
 mod refusal;
-mod register_file;
-mod store;
 
-pub use alu_table::Function;
-pub use arithmetic::alu;
-pub use arithmetic::shift;
-pub use b_bus::Source;
-pub use b_bus::bus;
-pub use codec::decode;
-pub use codec::encode;
-pub use control::CBits;
-pub use control::ControlWord;
 pub use cycles::power_refusal;
 pub use datapath_type::Datapath;
 pub use machine_state::State;
@@ -30,8 +15,4 @@ pub use pending::DataAccess;
 pub use pending::Fault;
 pub use pending::FetchAccess;
 pub use pending::Port;
-pub use refusal::ControlRefusal;
-pub use refusal::FillRefusal;
 pub use refusal::PowerRefusal;
-pub use register_file::Registers;
-pub use store::ControlStore;

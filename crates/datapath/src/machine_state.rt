@@ -1,7 +1,7 @@
 // The state of the datapath, apart from the memory.
 use crate::DataAccess;
 use crate::FetchAccess;
-use crate::Registers;
+use control::Registers;
 
 #[derive(Clone, Copy)]
 pub struct State {

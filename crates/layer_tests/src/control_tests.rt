@@ -1,18 +1,18 @@
 // Examples of control words, the store, the bus, the ALU and the shifter, by hand.
 #[cfg(test)]
 mod tests {
-    use datapath::CBits;
-    use datapath::ControlRefusal;
-    use datapath::ControlStore;
-    use datapath::ControlWord;
-    use datapath::FillRefusal;
-    use datapath::Registers;
-    use datapath::Source;
-    use datapath::alu;
-    use datapath::bus;
-    use datapath::decode;
-    use datapath::encode;
-    use datapath::shift;
+    use control::CBits;
+    use control::ControlRefusal;
+    use control::ControlStore;
+    use control::ControlWord;
+    use control::FillRefusal;
+    use control::Registers;
+    use control::Source;
+    use control::alu;
+    use control::bus;
+    use control::decode;
+    use control::encode;
+    use control::shift;
     use std::test::*;
 
     // the refusal's number, 0 for none

@@ -1,4 +1,4 @@
-// What the two lowest layers promise, used and tried: code over any memory, and examples with values from outside.
+// What the layers promise, used and tried: code over any memory, and examples with values from outside.
 ghost use denote.Ref.{name};
 ghost use mathlib.Core.Path.{_≡_};
 ghost use Prim.Native.Nat.{_^_};
@@ -12,6 +12,7 @@ use memory::WordMemory;
 use memory::WordMemoryMemory;
 
 mod control_tests;
+mod cycle_tests;
 mod memory_tests;
 
 // Copies a word to another address: proved once, for every memory.

@@ -1,11 +1,11 @@
 // The 512 numbers of the published control store, and the store.
 ghost use mathlib.Core.Path.{_≡_};
-ghost use Rattle.datapath.specs.Store.{fillOf};
-ghost use Rattle.datapath.specs.Whole.{numbersIn};
+ghost use Rattle.control.specs.Store.{fillOf};
+ghost use Rattle.control.specs.Numbers.{numbersIn};
 ghost use Rattle.microprogram.specs.Published.{published};
 ghost use Rattle.microprogram.specs.Store.{Holds-the-listing};
 ghost use Rattle.std.specs.declared.result.Result.the-variants.{Ok};
-use datapath::ControlStore;
+use control::ControlStore;
 
 const PUBLISHED: [u64; 512] = [
     0x800000000,

@@ -11,11 +11,11 @@ use Rattle.std.specs.declared.option.Option.{Option}
 use Rattle.std.specs.declared.option.Option.the-variants.{Some, None}
 use Rattle.std.specs.declared.result.Result.{Result}
 use Rattle.std.specs.declared.result.Result.the-variants.{Ok, Err}
-use Rattle.datapath.specs.declared.control.ControlWord.{ControlWord}
-use Rattle.datapath.specs.declared.refusal.ControlRefusal.{ControlRefusal}
-use Rattle.datapath.specs.declared.refusal.ControlRefusal.the-variants.{TooWide, TwoShifts, TwoAccesses}
-use Rattle.datapath.specs.Control.{decodeOf}
-use Rattle.datapath.specs.Refusals.{controlNumber}
+use Rattle.control.specs.declared.control.ControlWord.{ControlWord}
+use Rattle.control.specs.declared.refusal.ControlRefusal.{ControlRefusal}
+use Rattle.control.specs.declared.refusal.ControlRefusal.the-variants.{TooWide, TwoShifts, TwoAccesses}
+use Rattle.control.specs.Control.{decodeOf}
+use Rattle.control.specs.Refusals.{controlNumber}
 use Rattle.notation.specs.Text.{operationsText, wordText}
 use Rattle.std.specs.Written.{decimal}
 

@@ -7,14 +7,14 @@ use lib.Chars.{codes}
 use lib.Dec.{eqb, leb}
 use Rattle.std.specs.declared.option.Option.{Option}
 use Rattle.std.specs.declared.option.Option.the-variants.{Some, None}
-use Rattle.datapath.specs.declared.control.CBits.{CBits}
-use Rattle.datapath.specs.declared.control.ControlWord.{ControlWord}
-use Rattle.datapath.specs.declared.alu_table.Function.{Function}
-use Rattle.datapath.specs.declared.alu_table.Function.the-variants.{A, B, NotA, NotB, APlusB, APlusBPlus1, APlus1, BPlus1, BMinusA, BMinus1, MinusA, AAndB, AOrB, Zero, One, MinusOne}
-use Rattle.datapath.specs.declared.b_bus.Source.{Source}
-use Rattle.datapath.specs.declared.b_bus.Source.the-variants.{Mdr, Pc, Mbr, Mbru, Sp, Lv, Cpp, Tos, Opc, Nothing}
-use Rattle.datapath.specs.Bus.{sourceOf}
-use Rattle.datapath.specs.AluTable.{functionOf}
+use Rattle.control.specs.declared.control.CBits.{CBits}
+use Rattle.control.specs.declared.control.ControlWord.{ControlWord}
+use Rattle.control.specs.declared.alu_table.Function.{Function}
+use Rattle.control.specs.declared.alu_table.Function.the-variants.{A, B, NotA, NotB, APlusB, APlusBPlus1, APlus1, BPlus1, BMinusA, BMinus1, MinusA, AAndB, AOrB, Zero, One, MinusOne}
+use Rattle.control.specs.declared.b_bus.Source.{Source}
+use Rattle.control.specs.declared.b_bus.Source.the-variants.{Mdr, Pc, Mbr, Mbru, Sp, Lv, Cpp, Tos, Opc, Nothing}
+use Rattle.control.specs.Bus.{sourceOf}
+use Rattle.control.specs.AluTable.{functionOf}
 
 -- A text where a flag is on, else nothing.
 abbrev pub when : Bool → List ℕ → List ℕ

@@ -7,8 +7,8 @@ ghost use Rattle.std.specs.Vec.{made};
 use crate::digits::address_text;
 use crate::values::text_when;
 use crate::values::value_text;
-use datapath::CBits;
-use datapath::ControlWord;
+use control::CBits;
+use control::ControlWord;
 use std::alloc::AllocError;
 use std::alloc::Global;
 

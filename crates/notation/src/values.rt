@@ -3,12 +3,12 @@ ghost use mathlib.Core.Bool.{cond};
 ghost use mathlib.Core.Path.{_≡_};
 ghost use lib.Chars.{codes};
 ghost use Rattle.notation.specs.Text.{when, sourceText, functionText, leftText, rightText, chosenText, resultText, valueText};
-ghost use Rattle.datapath.specs.AluTable.{functionOf};
+ghost use Rattle.control.specs.AluTable.{functionOf};
 ghost use Rattle.std.specs.Of.String.{string-bytes};
 ghost use Rattle.std.specs.Vec.{made};
-use datapath::ControlWord;
-use datapath::Function;
-use datapath::Source;
+use control::ControlWord;
+use control::Function;
+use control::Source;
 use std::alloc::AllocError;
 use std::alloc::Global;
 

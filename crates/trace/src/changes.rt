@@ -5,7 +5,13 @@ use std::alloc::AllocError;
 use std::alloc::Global;
 
 // Adds a register that changed, with its new value as a signed number.
-fn add_register(text: &mut String, heap: Global, name: &'static str, before: u32, after: u32) -> Result<(), AllocError> {
+fn add_register(
+    text: &mut String,
+    heap: Global,
+    name: &'static str,
+    before: u32,
+    after: u32,
+) -> Result<(), AllocError> {
     if before != after {
         let value = after.cast_signed();
         let change = format!(heap, " {name}={value}")?;
@@ -15,7 +21,12 @@ fn add_register(text: &mut String, heap: Global, name: &'static str, before: u32
 }
 
 // Adds the registers that changed.
-fn add_registers(text: &mut String, heap: Global, before: &State, after: &State) -> Result<(), AllocError> {
+fn add_registers(
+    text: &mut String,
+    heap: Global,
+    before: &State,
+    after: &State,
+) -> Result<(), AllocError> {
     let old = before.registers;
     let new = after.registers;
     add_register(text, heap, "PC", old.pc, new.pc)?;
@@ -31,7 +42,13 @@ fn add_registers(text: &mut String, heap: Global, before: &State, after: &State)
 
 // Adds the write that was completed.
 fn add_write(text: &mut String, heap: Global, before: &State) -> Result<(), AllocError> {
-    if let Some(DataAccess::Write { address, mpc: _, word }) = before.access {
+    if let Some(
+        DataAccess::Write {
+            address,
+            mpc: _,
+            word,
+        },
+    ) = before.access {
         let value = word.cast_signed();
         let change = format!(heap, " word{address}={value}")?;
         text.push_str(change.as_str())?;
@@ -43,7 +60,13 @@ fn add_write(text: &mut String, heap: Global, before: &State) -> Result<(), Allo
 fn add_begun(text: &mut String, heap: Global, after: &State) -> Result<(), AllocError> {
     let begun = match after.access {
         Some(DataAccess::Read { address, mpc: _ }) => format!(heap, " (rd {address})")?,
-        Some(DataAccess::Write { address, mpc: _, word: _ }) => format!(heap, " (wr {address})")?,
+        Some(
+            DataAccess::Write {
+                address,
+                mpc: _,
+                word: _,
+            },
+        ) => format!(heap, " (wr {address})")?,
         None => String::new(heap),
     };
     text.push_str(begun.as_str())?;

@@ -28,7 +28,10 @@ fn main(rt: LibcRuntime) -> Result<(), AnyError> {
             let performed = trace(&rt, turns)?;
             report(&rt, performed.as_slice())?;
         }
-        None => println!(rt, "give the number of turns, from 1 to 127, on standard input")?,
+        None => println!(
+            rt,
+            "give the number of turns, from 1 to 127, on standard input"
+        )?,
     }
     Ok(())
 }

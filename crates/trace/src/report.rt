@@ -7,11 +7,16 @@ use std::error::AnyError;
 
 // The byte address at which each turn of the loop begins, and the one behind the loop.
 const HEAD: u32 = 12;
+
 const BEHIND: u32 = 30;
 
 // Adds a number to a sum that is written out.
 fn add_term(text: &mut String, heap: Global, cycles: u64) -> Result<(), AllocError> {
-    let term = if text.is_empty() { format!(heap, "{cycles}")? } else { format!(heap, " + {cycles}")? };
+    let term = if text.is_empty() {
+        format!(heap, "{cycles}")?
+    } else {
+        format!(heap, " + {cycles}")?
+    };
     text.push_str(term.as_str())
 }
 
@@ -41,7 +46,10 @@ fn first_turn(rt: &LibcRuntime, performed: &[Performed]) -> Result<(), AnyError>
 // Each turn's sum, and all cycles.
 pub fn report(rt: &LibcRuntime, performed: &[Performed]) -> Result<(), AnyError> {
     let heap = rt.alloc();
-    println!(rt, "the first turn of the loop: address, instruction, cycles")?;
+    println!(
+        rt,
+        "the first turn of the loop: address, instruction, cycles"
+    )?;
     first_turn(rt, performed)?;
     let mut text = String::new(heap);
     let mut sum: u64 = 0;

@@ -3,9 +3,9 @@ use crate::changes::changes;
 use crate::labels::label;
 use crate::method::method_words;
 use crate::method::mnemonic;
-use datapath::ControlStore;
+use control::ControlStore;
+use control::Registers;
 use datapath::Datapath;
-use datapath::Registers;
 use datapath::State;
 use memory::Memory;
 use memory::WordMemory;
@@ -35,7 +35,11 @@ fn ends(state: &State) -> bool {
 }
 
 // One instruction, each of its cycles printed; none where the memory refuses an access.
-fn instruction<M: Memory>(rt: &LibcRuntime, machine: &mut Datapath<M>, store: &ControlStore) -> Result<Option<Performed>, AnyError> {
+fn instruction<M: Memory>(
+    rt: &LibcRuntime,
+    machine: &mut Datapath<M>,
+    store: &ControlStore,
+) -> Result<Option<Performed>, AnyError> {
     let start = machine.state();
     for done in 0..100u64 {
         let before = machine.state();
@@ -48,7 +52,11 @@ fn instruction<M: Memory>(rt: &LibcRuntime, machine: &mut Datapath<M>, store: &C
         let changed = changes(rt.alloc(), &before, &after)?;
         println!(rt, "{number} {line}:{changed}")?;
         if after.mpc == MAIN1 {
-            return Ok(Some(Performed { address: start.registers.pc, opcode: start.mbr, cycles: done + 1 }));
+            return Ok(Some(Performed {
+                address: start.registers.pc,
+                opcode: start.mbr,
+                cycles: done + 1,
+            }));
         }
     }
     Ok(None)
@@ -60,7 +68,17 @@ pub fn trace(rt: &LibcRuntime, turns: u8) -> Result<Vec<Performed>, AnyError> {
     let mut words = method_words(turns.min(127));
     let mut memory = WordMemory::make(&mut words);
     let _ = memory.protect(MARK);
-    let registers = Registers { h: 0, opc: 0, tos: 0, cpp: MARK, lv: MARK, sp: 13, pc: 4, mdr: 0, mar: 0 };
+    let registers = Registers {
+        h: 0,
+        opc: 0,
+        tos: 0,
+        cpp: MARK,
+        lv: MARK,
+        sp: 13,
+        pc: 4,
+        mdr: 0,
+        mar: 0,
+    };
     let mut machine = Datapath::power(memory, registers, 0x10, MAIN1);
     let store = published_store();
     for _ in 0..2000 {

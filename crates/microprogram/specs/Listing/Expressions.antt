@@ -1,10 +1,10 @@
 -- What the ALU can be told to compute, as expressions of its inputs A and B, and the signals that tell it.
 use mathlib.Core.List.{List, [], _∷_}
 use Prim.Native.Nat.{ℕ, _*_, _^_}
-use Rattle.datapath.specs.declared.alu_table.Function.{Function}
-use Rattle.datapath.specs.declared.alu_table.Function.the-variants.{A as isA, B as isB, NotA, NotB, APlusB, APlusBPlus1, APlus1, BPlus1, BMinusA, BMinus1, MinusA, AAndB, AOrB, Zero, One, MinusOne}
-use Rattle.datapath.specs.AluTable.{Row, row, table, signals}
-use Rattle.datapath.specs.Format.{INC}
+use Rattle.control.specs.declared.alu_table.Function.{Function}
+use Rattle.control.specs.declared.alu_table.Function.the-variants.{A as isA, B as isB, NotA, NotB, APlusB, APlusBPlus1, APlus1, BPlus1, BMinusA, BMinus1, MinusA, AAndB, AOrB, Zero, One, MinusOne}
+use Rattle.control.specs.AluTable.{Row, row, table, signals}
+use Rattle.control.specs.Format.{INC}
 
 infixl 90 _+_
 infixl 90 _−_

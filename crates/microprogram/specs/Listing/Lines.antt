@@ -3,7 +3,7 @@ use mathlib.Core.Bool.{Bool, true, false}
 use mathlib.Core.List.{List, [], _∷_}
 use Prim.Native.Nat.{ℕ, _+_, _*_, _^_}
 use lib.Dec.{eqb}
-use Rattle.datapath.specs.Format.{NEXT, JMPC, WRITE, READ, FETCH}
+use Rattle.control.specs.Format.{NEXT, JMPC, WRITE, READ, FETCH}
 use Rattle.microprogram.specs.Listing.Expressions.{signalsFor}
 use Rattle.microprogram.specs.Listing.Labels.{Label}
 use Rattle.microprogram.specs.Listing.Values.{Value}

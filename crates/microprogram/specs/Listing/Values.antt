@@ -1,6 +1,6 @@
 -- What stands on either side of an `≔` in the listing, by what it sets in the control word.
 use Prim.Native.Nat.{ℕ, _^_, _+_ as _plus_}
-use Rattle.datapath.specs.Format as format
+use Rattle.control.specs.Format as format
 use Rattle.microprogram.specs.Listing.Expressions.{Expression, A, B, 𝟎, 𝟏 as one, same}
 
 infixl 90 _+_

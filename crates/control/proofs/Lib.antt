@@ -1,0 +1,3 @@
+pub mod Round
+pub mod Accepted
+pub mod Table

@@ -1,6 +1,0 @@
-use borrow.Author.Needs.{needs}
-use Rattle.datapath.proofs.Accepted.{zeros-accepted}
-use Rattle.datapath.proofs.store.zeros.Needs as need
-
-pub returns : need.returns
-returns c = record { value = search needs; accepted = zeros-accepted 512 }
