@@ -4,6 +4,7 @@ ghost use Rattle.control.specs.Store.{fillOf};
 ghost use Rattle.control.specs.Numbers.{numbersIn};
 ghost use Rattle.microprogram.specs.Published.{published};
 ghost use Rattle.microprogram.specs.Store.{Holds-the-listing};
+ghost use Rattle.microprogram.specs.Worked.{Worked-examples};
 ghost use Rattle.std.specs.declared.result.Result.the-variants.{Ok};
 use control::ControlStore;
 
@@ -527,6 +528,7 @@ fn numbers() -> [u64; 512]
     ensures value { λ r. ⌜ r ≡ published ⌝ }
     ensures accepted { λ r. ⌜ fillOf r ≡ Ok tt ⌝ }
     ensures listing { λ r. ⌜ Holds-the-listing r ⌝ }
+    ensures worked { λ _. ⌜ Worked-examples ⌝ }
 {
     PUBLISHED
 }
@@ -535,6 +537,7 @@ fn numbers() -> [u64; 512]
 pub fn published_store() -> ControlStore
     ensures value { λ r. ⌜ numbersIn r ≡ published ⌝ }
     ensures listing { λ r. ⌜ Holds-the-listing (numbersIn r) ⌝ }
+    ensures worked { λ _. ⌜ Worked-examples ⌝ }
 {
     let mut store = ControlStore::new();
     let _ = store.fill(&numbers());

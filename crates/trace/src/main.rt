@@ -22,7 +22,8 @@ fn turns_in(line: &str) -> Option<u8> {
 fn main(rt: LibcRuntime) -> Result<(), AnyError> {
     let heap = rt.alloc();
     let mut line = String::new(heap);
-    BufReader::new(rt.stdin()).read_line(&mut line)?;
+    // what is no text holds no number
+    let _ = BufReader::new(rt.stdin()).read_line(&mut line);
     match turns_in(line.as_str()) {
         Some(turns) => {
             let performed = trace(&rt, turns)?;

@@ -1,11 +1,9 @@
 // The summing method, and the instructions by name.
 ghost use mathlib.Core.Path.{_≡_};
-ghost use Prim.Native.Nat.{_≤_};
 ghost use Rattle.trace.specs.Method.{methodWords, mnemonicText};
 
 // The words of the memory, for a number of turns.
 pub fn method_words(turns: u8) -> [u32; 32]
-    requires { ⌜ turns ≤ 127 ⌝ }
     ensures { λ r. ⌜ r ≡ methodWords turns ⌝ }
 {
     [

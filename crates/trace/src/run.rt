@@ -65,7 +65,7 @@ fn instruction<M: Memory>(
 // The whole method, up to main's return: what was performed.
 pub fn trace(rt: &LibcRuntime, turns: u8) -> Result<Vec<Performed>, AnyError> {
     let mut performed = Vec::new(rt.alloc());
-    let mut words = method_words(turns.min(127));
+    let mut words = method_words(turns);
     let mut memory = WordMemory::make(&mut words);
     let _ = memory.protect(MARK);
     let registers = Registers {
