@@ -33,9 +33,11 @@ pub record Micro : Type 0 where
 abbrev pub wordIn : List ℕ → State → ControlWord
 wordIn store s = fieldsOf (getD store (s .mpc) 0)
 
+-- The ALU's result, from H and the bus.
 abbrev pub resultIn : ControlWord → State → ℕ
 resultIn w s = resultOf w (s .registers .h) (busOf (sourceOf (w .b)) (s .registers) (s .mbr))
 
+-- The value on the C bus.
 abbrev pub cBusIn : ControlWord → State → ℕ
 cBusIn w s = shiftOf w (resultIn w s)
 
@@ -43,6 +45,7 @@ cBusIn w s = shiftOf w (resultIn w s)
 abbrev pub successorOf : ControlWord → (mbr : ℕ) → (n z : Bool) → ℕ
 successorOf w mbr n z = bitOr (bitOr (w .next) (cond (w .jmpc) mbr 0)) (cond ((w .jamn && n) || (w .jamz && z)) (2 ^ 8) 0)
 
+-- The same, from the flags of the result.
 abbrev pub successorIn : ControlWord → State → ℕ
 successorIn w s = successorOf w (s .mbr) (negative (resultIn w s)) (eqb (resultIn w s) 0)
 
@@ -55,14 +58,17 @@ placed (Err cause) address port mpc = Err (record { cause = cause; address = add
 abbrev pub byteIn : (word address : ℕ) → ℕ
 byteIn word address = word / 2 ^ (8 * (3 - address % 4)) % 2 ^ 8
 
+-- What arrives: the byte of the word that a fetch reads,
 abbrev pub byteArrives : ℕ → Result ℕ Fault → Result (Option ℕ) Fault
 byteArrives address (Ok word) = Ok (Some (byteIn word address))
 byteArrives address (Err fault) = Err fault
 
+-- the word that is read,
 abbrev pub wordArrives : Result ℕ Fault → Result (Option ℕ) Fault
 wordArrives (Ok word) = Ok (Some word)
 wordArrives (Err fault) = Err fault
 
+-- and nothing where a word is written.
 abbrev pub nothingArrives : Result (Unit {0}) Fault → Result (Option ℕ) Fault
 nothingArrives (Ok _) = Ok None
 nothingArrives (Err fault) = Err fault
@@ -98,10 +104,12 @@ loadedOf w r v = record {
   mar = cond (w .c .mar) v (r .mar);
 }
 
+-- What arrives, else what is held.
 abbrev pub arriving : Option ℕ → ℕ → ℕ
 arriving None held = held
 arriving (Some new) held = new
 
+-- The registers with an arriving word in MDR.
 abbrev pub arrivedOf : Registers → Option ℕ → Registers
 arrivedOf r word = record {
   h = r .h;
@@ -115,6 +123,7 @@ arrivedOf r word = record {
   mar = r .mar;
 }
 
+-- The registers after the cycle: loaded from the C bus, then with what arrives.
 abbrev pub registersOf : ControlWord → State → Option ℕ → Registers
 registersOf w s word = arrivedOf (loadedOf w (s .registers) (cBusIn w s)) word
 
@@ -122,6 +131,7 @@ registersOf w s word = arrivedOf (loadedOf w (s .registers) (cBusIn w s)) word
 abbrev pub begunData : ControlWord → Registers → ℕ → Option DataAccess
 begunData w r mpc = cond (w .write) (Some (Writing (r .mar) mpc (r .mdr))) (cond (w .read) (Some (Reading (r .mar) mpc)) None)
 
+-- The fetch that begins, at the byte address in PC.
 abbrev pub begunFetch : ControlWord → Registers → ℕ → Option FetchAccess
 begunFetch w r mpc = cond (w .fetch) (Some (record { address = r .pc; mpc = mpc })) None
 
@@ -141,10 +151,12 @@ abbrev pub dataThen : ControlWord → Micro → Option ℕ → Result (Option �
 dataThen w m byte (Ok word) = Ok (record { memory = completedOf (m .memory) (m .state .access); state = advancedOf w (m .state) byte word })
 dataThen w m byte (Err fault) = Err fault
 
+-- The fetch comes before the read or write.
 abbrev pub fetchThen : ControlWord → Micro → Result (Option ℕ) Fault → Result Micro Fault
 fetchThen w m (Ok byte) = dataThen w m byte (accessedOf (m .memory) (m .state .access))
 fetchThen w m (Err fault) = Err fault
 
+-- One cycle of a machine by a control store.
 abbrev pub cycleOf : List ℕ → Micro → Result Micro Fault
 cycleOf store m = fetchThen (wordIn store (m .state)) m (fetchedOf (m .memory) (m .state .fetch))
 
@@ -153,6 +165,7 @@ abbrev pub answerOf : Result Micro Fault → Result (Unit {0}) Fault
 answerOf (Ok _) = Ok tt
 answerOf (Err fault) = Err fault
 
+-- The machine after it.
 abbrev pub afterOf : Micro → Result Micro Fault → Micro
 afterOf m (Ok n) = n
 afterOf m (Err fault) = m

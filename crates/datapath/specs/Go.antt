@@ -24,6 +24,7 @@ pub record Gone : Type 0 where
 abbrev pub later : ℕ → Gone → Gone
 later k g = record { done = k + g .done; fault = g .fault; after = g .after }
 
+-- After a cycle that was done the rest follows; one that is refused ends it.
 abbrev pub goOn : (Micro → Gone) → Micro → Result Micro Fault → Gone
 goOn rest m (Ok next) = later 1 (rest next)
 goOn rest m (Err fault) = record { done = 0; fault = Some fault; after = m }
