@@ -1,4 +1,6 @@
 // What drives the datapath of the Mic-1: control words, the control store, the B bus, the ALU and the shifter.
+#![tactic(auto)]
+
 mod alu_table;
 mod arithmetic;
 mod b_bus;

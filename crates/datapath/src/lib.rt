@@ -1,4 +1,6 @@
 // The datapath of the Mic-1: its state, and the cycle that moves it.
+#![tactic(auto)]
+
 mod advance;
 mod complete;
 mod cycles;

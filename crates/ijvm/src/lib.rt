@@ -1,4 +1,6 @@
 // The instruction machine IJVM: its cases, what a step checks, the cycle table, and what the published microprogram makes of them.
+#![tactic(auto)]
+
 mod cases;
 mod opcodes;
 mod refusal;

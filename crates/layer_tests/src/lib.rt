@@ -1,4 +1,6 @@
 // What the layers promise, used and tried: code over any memory, and examples with values from outside.
+#![tactic(auto)]
+
 ghost use Rattle.std.specs.Prelude.{◌≡◌, ◌^◌};
 ghost use Rattle.layer_tests.specs.Moved.{move_of, moved_of};
 ghost use Rattle.memory.specs.Cells.{made_of, usable, unused};

@@ -1,4 +1,6 @@
 // The memory of the Mic-1: what a memory means, and two memories that have this meaning.
+#![tactic(auto)]
+
 ghost use Rattle.std.specs.Prelude.{◌≡◌};
 ghost use Rattle.memory.specs.Loans.{Loan};
 ghost use Rattle.memory.specs.Meaning.{Meaning, Proper, size_of, read_of, write_of, written_of, protect_of, protected_of};

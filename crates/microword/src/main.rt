@@ -1,4 +1,6 @@
 // Reads control words, one a line in hexadecimal, and prints the operations of each.
+#![tactic(auto)]
+
 mod line;
 
 use line::{line_report, number_in};

@@ -1,4 +1,6 @@
 // Control words in the notation of the textbook's slides.
+#![tactic(auto)]
+
 mod digits;
 mod operations;
 mod values;

@@ -1,4 +1,6 @@
 // Traces the summing method cycle by cycle, and shows where the cycles of a turn of its loop come from.
+#![tactic(auto)]
+
 mod changes;
 mod labels;
 mod method;

@@ -8,11 +8,11 @@ digit_small : (on : Bool) → cond on 1 0 < 2
 digit_small true = omega arith
 digit_small false = omega arith
 
-pub overflow-mul-number : goal.overflow-mul-number
-overflow-mul-number c = omega (arith, pow_below (9 + c.loop-on.on-index) 32 (omega arith))
+pub overflow_mul-number : goal.overflow_mul-number
+overflow_mul-number c = omega (arith, pow_below (9 + c.loop-on.on-index) 32 (omega arith))
 
-pub overflow-add-number : goal.overflow-add-number
-overflow-add-number c =
+pub overflow_add-number : goal.overflow_add-number
+overflow_add-number c =
     let b : c.bit.result < 2 = rw c.bit.ensures (digit_small (get_or c.args.flags.now c.loop-on.on-index false)) in
     omega (arith, pow_below (9 + c.loop-on.on-index) 32 (omega arith))
 

@@ -21,7 +21,7 @@ loop-i-preserved c =
     let ns = c.args.numbers.now in
     let i = c.loop-i.i in
     let l : i < length ns = omega arith in
-    let d : decode_of (get_or ns i 0) ≡ Ok c.in-default.field-0 = sym c.decode.ensures.value ∙ c.in-default.is in
+    let d : decode_of (get_or ns i 0) ≡ Ok c.in_default.field-0 = sym c.decode.ensures.value ∙ c.in_default.is in
     sym (ap (λ x. or_else i x (first_refused (i + 1) (drop (i + 1) ns))) d) ∙ sym (at_drop_more (first_refused i) ns i 0 l) ∙ c.loop-i.invariant
 
 pub returns : goal.returns

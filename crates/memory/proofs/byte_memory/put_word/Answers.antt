@@ -21,9 +21,9 @@ bounds-bytes-at-4 c = simp length-set (byte_within c.args.bytes.now c.args.addre
 pub returns : goal.returns
 returns c =
     let l = c.args.bytes.now in
-    let r = c.to-be-bytes-cells.result in
+    let r = c.to_be_bytes-cells.result in
     let h : c.args.address < length l / 4 = omega (arith, c.requires, length-words_of 4 256 l) in
     let e : number_from_digits 256 (get_or r 0 0 ∷ (get_or r 1 0 ∷ (get_or r 2 0 ∷ (get_or r 3 0 ∷ [])))) ≡ c.args.word =
-    rw c.to-be-bytes-cells.ensures (four_bytes c.args.word (omega arith)) in
+    rw c.to_be_bytes-cells.ensures (four_bytes c.args.word (omega arith)) in
     words_of-put_bytes l c.args.address (get_or r 0 0) (get_or r 1 0) (get_or r 2 0) (get_or r 3 0) h
     ∙ ap (set (words_of 4 256 l) c.args.address) e

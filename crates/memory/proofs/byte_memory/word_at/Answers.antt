@@ -22,5 +22,5 @@ returns c =
     let a = c.args.address in
     let h : a < length l / 4 = omega (arith, c.requires, length-words_of 4 256 l) in
     let first = ap (λ i. get_or l i 0) {x = 4 * a} {y = 4 * a + 0} (omega arith) in
-    let f : c.from-be-bytes.result ≡ word_at 4 256 l a = omega (arith, c.from-be-bytes.ensures, first) in
+    let f : c.from_be_bytes.result ≡ word_at 4 256 l a = omega (arith, c.from_be_bytes.ensures, first) in
     f ∙ sym (get_or-words_of 4 256 l a 0 h)

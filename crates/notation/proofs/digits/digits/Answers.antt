@@ -4,7 +4,7 @@ use Rattle.notation.specs.Text.{digit_text_of, digits_text_of}
 use Rattle.notation.proofs.digits.digits.Goals as goal
 
 pub loop-place-init : goal.loop-place-init
-loop-place-init c = ap (λ t. t ++ digits_text_of c.args.number c.args.count) c.in-ok-text.ensures.ok
+loop-place-init c = ap (λ t. t ++ digits_text_of c.args.number c.args.count) c.in_ok-text.ensures.ok
 
 pub loop-place-preserved : goal.loop-place-preserved
 loop-place-preserved c =
@@ -12,7 +12,7 @@ loop-place-preserved c =
     let k = c.loop-place.place - 1 in
     let t = string_bytes c.loop-place.text in
     let more : digits_text_of n c.loop-place.place ≡ digit_text_of (n / 2 ^ (4 * k) % 16) ++ digits_text_of n k = ap (digits_text_of n) {x = c.loop-place.place} {y = suc k} (omega arith) in
-    ap (λ s. s ++ digits_text_of n k) c.in-ok-push-str.ensures.bytes
+    ap (λ s. s ++ digits_text_of n k) c.in_ok-push_str.ensures.bytes
     ∙ ap (λ d. (t ++ d) ++ digits_text_of n k) c.digit.ensures
     ∙ append_assoc t (digit_text_of (n / 2 ^ (4 * k) % 16)) (digits_text_of n k)
     ∙ ap (λ d. t ++ d) (sym more)

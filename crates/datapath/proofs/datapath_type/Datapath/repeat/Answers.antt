@@ -27,7 +27,7 @@ loop-done-preserved g c =
     let m = micro_of g.M.Memory.meaning c.loop-done.self in
     let n = micro_of g.M.Memory.meaning c.cycle.new.self in (
       c.loop-done.invariant.0
-          ∙ go_more c.args.store.now.numbers c.args.n c.loop-done.done m c.loop-done-test.true c.cycle.result n c.cycle.ensures.answer c.cycle.ensures.after c.in-default.is,
+          ∙ go_more c.args.store.now.numbers c.args.n c.loop-done.done m c.loop-done-test.true c.cycle.result n c.cycle.ensures.answer c.cycle.ensures.after c.in_default.is,
       c.cycle.ensures.loan ∙ c.loop-done.invariant.1,
       λ h. c.cycle.ensures.within (c.loop-done.invariant.2 h),
     )
