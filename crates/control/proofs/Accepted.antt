@@ -1,5 +1,5 @@
 -- Numbers that decode accepts.
-use Rattle.std.proofs.Common.{◌≡◌, ℕ, zero, suc, ◌+◌, true, List, [], ◌∷◌, get_or, replicate, is_ok, Ok, Err, Result, refl, arith}
+use Rattle.std.proofs.Common.{◌≡◌, ℕ, zero, suc, ◌+◌, true, List, [], ◌∷◌, replicate, is_ok, Ok, Err, Result, refl, arith}
 use Rattle.control.specs.declared.control.ControlWord.{ControlWord}
 use Rattle.control.specs.declared.refusal.ControlRefusal.{ControlRefusal}
 use Rattle.control.specs.declared.refusal.FillRefusal.{FillRefusal}

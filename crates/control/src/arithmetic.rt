@@ -59,18 +59,18 @@ pub fn alu(word: &ControlWord, h: u32, bus: u32) -> (u32, bool, bool)
 }
 
 // What the shifter makes of the result.
-pub fn shift(word: &ControlWord, res: u32) -> u32
-    ensures { result ≡ shift_of word.now res }
+pub fn shift(word: &ControlWord, value: u32) -> u32
+    ensures { result ≡ shift_of word.now value }
 {
     if word.sll8 {
-        res << 8
+        value << 8
     } else if word.sra1 {
-        if res >= 0x8000_0000 {
-            res / 2 + 0x8000_0000
+        if value >= 0x8000_0000 {
+            value / 2 + 0x8000_0000
         } else {
-            res / 2
+            value / 2
         }
     } else {
-        res
+        value
     }
 }

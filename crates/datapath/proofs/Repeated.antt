@@ -1,5 +1,5 @@
 -- Cycles one after the other, from what each answers and leaves.
-use Rattle.std.proofs.Common.{◌≡◌, ℕ, zero, suc, ◌+◌, ◌-◌, ◌<◌, List, Some, None, Ok, Err, Result, sym, refl, ap, ◌∙◌, zero-add, arith}
+use Rattle.std.proofs.Common.{◌≡◌, ℕ, suc, ◌+◌, ◌-◌, ◌<◌, List, Some, Ok, Err, Result, sym, refl, ap, ◌∙◌, zero-add, arith}
 use Rattle.datapath.specs.declared.pending.Fault.{Fault}
 use Rattle.datapath.specs.Cycle.{Micro, cycle_of, answer_of, after_of}
 use Rattle.datapath.specs.Go.{Gone, later, go_on, go_of}

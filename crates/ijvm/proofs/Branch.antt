@@ -1,5 +1,5 @@
 -- A branch's target: the exact sum, and the sum modulo 2^32 that the cycles compute.
-use Rattle.std.proofs.Common.{◌≡◌, ℕ, ◌+◌, ◌-◌, ◌*◌, ◌%◌, ◌^◌, ◌<◌, ◌≤◌, Bool, true, false, cond, leb, Some, None, Option, refl, arith, leb-true}
+use Rattle.std.proofs.Common.{◌≡◌, ℕ, ◌+◌, ◌-◌, ◌*◌, ◌%◌, ◌^◌, ◌<◌, ◌≤◌, Bool, true, false, cond, leb, Some, None, refl, arith, leb-true}
 use Rattle.datapath.specs.Cycle.{arriving}
 use Rattle.ijvm.specs.Machine.{Ijvm, byte_at, short_at, target_of}
 use Rattle.ijvm.specs.Applies.{LandsIn}

@@ -1,7 +1,7 @@
 -- Cycles by what each is given: who proves names the values, and the state is computed.
 -- `Cycles store k m P` asks, cycle by cycle, for the value on the C bus where a register is loaded, for the byte at a dispatch, the flag at a jump, and what arrives from the memory with the proof that it is
 -- there; at the end it asks for P of the machine. Each part of the state passes through a function of its own, so that it stays a short term after any number of cycles.
-use Rattle.std.proofs.Common.{◌≡◌, ℕ, zero, suc, ◌+◌, ◌*◌, ◌/◌, ◌%◌, ◌^◌, ◌<◌, ◌≤◌, Bool, true, false, cond, ◌&&◌, ◌||◌, eqb, List, get_or, set, Some, None, Ok, Err, Option, Result, sym, refl, ap, ◌∙◌, subst, arith, le-ltb}
+use Rattle.std.proofs.Common.{◌≡◌, ℕ, zero, suc, ◌+◌, ◌/◌, ◌%◌, ◌^◌, ◌<◌, ◌≤◌, Bool, true, false, cond, ◌||◌, eqb, List, get_or, set, Some, None, Ok, Option, sym, refl, ap, ◌∙◌, subst, arith, le-ltb}
 use borrow.Author.Tests.{lt-leb}
 use Rattle.memory.specs.Meaning.{Meaning, size_of}
 use Rattle.control.specs.declared.control.ControlWord.{ControlWord}
@@ -11,8 +11,7 @@ use Rattle.datapath.specs.declared.machine_state.State.{State}
 use Rattle.datapath.specs.declared.pending.DataAccess.{DataAccess}
 use Rattle.datapath.specs.declared.pending.DataAccess.TheVariants.{Read as Reading, Write as Writing}
 use Rattle.datapath.specs.declared.pending.FetchAccess.{FetchAccess}
-use Rattle.datapath.specs.declared.pending.Fault.{Fault}
-use Rattle.datapath.specs.Cycle.{Micro, result_in, c_bus_in, successor_of, successor_in, fetched_of, accessed_of, completed_of, loaded_of, arriving, arrived_of, begun_data, begun_fetch, advanced_of, data_then, fetch_then, cycle_of}
+use Rattle.datapath.specs.Cycle.{Micro, result_in, c_bus_in, successor_of, successor_in, fetched_of, accessed_of, completed_of, loaded_of, arriving, arrived_of, begun_data, begun_fetch, cycle_of}
 use Rattle.datapath.specs.Go.{Gone, later, go_on, go_of}
 use Rattle.ijvm.specs.Machine.{byte_of}
 

@@ -1,5 +1,5 @@
 -- Every case of the table takes its entry in cycles, and so does any list of them.
-use Rattle.std.proofs.Common.{◌≡◌, ℕ, zero, suc, ◌+◌, ◌%◌, ◌^◌, ◌<◌, List, [], ◌∷◌, ◌++◌, Some, None, Ok, Err, Result, sym, refl, ap, ◌∙◌, subst, suc-add, zero-add, arith}
+use Rattle.std.proofs.Common.{◌≡◌, ℕ, zero, suc, ◌+◌, ◌^◌, ◌<◌, List, [], ◌∷◌, Some, None, Ok, Err, Result, refl, ap, subst, suc-add, zero-add, arith}
 use Rattle.datapath.specs.declared.pending.Fault.{Fault}
 use Rattle.datapath.specs.Cycle.{Micro, cycle_of}
 use Rattle.datapath.specs.Go.{Gone, later, go_on, go_of}

@@ -1,5 +1,5 @@
 -- Where the parts of a sound state lie.
-use Rattle.std.proofs.Common.{ℕ, ◌+◌, ◌<◌, ◌≤◌, arith}
+use Rattle.std.proofs.Common.{◌+◌, ◌<◌, ◌≤◌, arith}
 use Rattle.ijvm.specs.Machine.{Ijvm, size_of, link_of, base_of}
 use Rattle.ijvm.specs.Sound.{Sound}
 use Rattle.ijvm.proofs.Steady.{own_link, over_mark}

@@ -1,5 +1,5 @@
 -- Every case of the table but calls and returns, line by line of the listing.
-use Rattle.std.proofs.Common.{◌≡◌, ℕ, ◌+◌, ◌-◌, ◌*◌, ◌/◌, ◌%◌, ◌^◌, ◌<◌, ◌≤◌, Bool, true, false, cond, leb, ◌≢◌, List, length, get_or, set, None, sym, refl, ◌∙◌, arith, length-set, get_or-set_other, get_or-set_same, eq-eqb, ne_eqb, le-leb}
+use Rattle.std.proofs.Common.{◌≡◌, ℕ, ◌+◌, ◌-◌, ◌*◌, ◌%◌, ◌^◌, ◌<◌, ◌≤◌, true, false, cond, leb, ◌≢◌, List, length, get_or, set, None, sym, refl, ◌∙◌, arith, length-set, get_or-set_other, get_or-set_same, eq-eqb, ne_eqb, le-leb}
 use lib.Bits.{bit_and, bit_or, or_shifted, or_zero_r, and_comm, or_comm}
 use borrow.Author.Tests.{lt-leb}
 use Rattle.control.specs.Bus.{signed}
@@ -9,7 +9,7 @@ use Rattle.microprogram.specs.Listing.Labels.{address}
 use Rattle.microprogram.specs.Listing.Lines.{held, word}
 use Rattle.microprogram.specs.Published.{published}
 use Rattle.ijvm.specs.declared.cases.Case.TheVariants.{Nop, Bipush, LdcW, Iload, Istore, Pop, Dup, Swap, Iadd, Isub, Iand, Ior, Iinc, IfeqFalls, IfeqTaken, IfltFalls, IfltTaken, IfIcmpeqFalls, IfIcmpeqTaken, Goto, WideIload, WideIstore}
-use Rattle.ijvm.specs.Machine.{Ijvm, word_at, byte_of, byte_at, short_at, base_of, top_of, second_of, target_of}
+use Rattle.ijvm.specs.Machine.{Ijvm, word_at, byte_of, byte_at, base_of, top_of, second_of, target_of}
 use Rattle.ijvm.specs.Table.{effect_of}
 use Rattle.ijvm.specs.Applies.{Applies, LandsIn}
 use Rattle.ijvm.specs.Stands.{Stands, Takes}

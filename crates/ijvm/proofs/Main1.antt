@@ -1,12 +1,11 @@
 -- The loop's first line, which every instruction begins with; and what the end of an instruction has to show.
-use Rattle.std.proofs.Common.{◌≡◌, ℕ, zero, suc, ◌+◌, ◌-◌, ◌*◌, ◌/◌, ◌%◌, ◌^◌, ◌<◌, ◌≤◌, Bool, true, false, cond, ◌≢◌, List, get_or, set, Some, None, Ok, Err, Option, sym, refl, ap, ◌∙◌, arith, get_or-set_other, le-ltb}
+use Rattle.std.proofs.Common.{◌≡◌, ℕ, suc, ◌+◌, ◌*◌, ◌/◌, ◌%◌, ◌^◌, ◌<◌, ◌≤◌, Bool, true, false, cond, ◌≢◌, List, get_or, set, Some, None, Ok, Option, refl, ◌∙◌, arith, get_or-set_other, le-ltb}
 use lib.Bits.{or_zero_r}
 use borrow.Author.Tests.{lt-leb}
 use Rattle.datapath.specs.declared.pending.DataAccess.{DataAccess}
 use Rattle.datapath.specs.declared.pending.DataAccess.TheVariants.{Read as Reading, Write as Writing}
 use Rattle.memory.specs.Meaning.{Meaning}
 use Rattle.datapath.specs.Cycle.{Micro, accessed_of, completed_of, cycle_of}
-use Rattle.datapath.specs.Go.{go_of}
 use Rattle.microprogram.specs.Listing.{listing}
 use Rattle.microprogram.specs.Listing.Labels.{address}
 use Rattle.microprogram.specs.Listing.Lines.{held, word}

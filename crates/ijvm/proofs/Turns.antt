@@ -1,16 +1,16 @@
 -- The summing method, step by step.
-use Rattle.std.proofs.Common.{◌≡◌, ℕ, zero, suc, ◌+◌, ◌-◌, ◌*◌, ◌/◌, ◌%◌, ◌^◌, ◌<◌, ◌≤◌, ◌≢◌, List, [], ◌∷◌, ◌++◌, length, get_or, set, replicate, Ok, Err, sym, refl, ap, ◌∙◌, subst, zero-add, add-one, arith, ltb-true}
+use Rattle.std.proofs.Common.{◌≡◌, ℕ, zero, suc, ◌+◌, ◌-◌, ◌*◌, ◌/◌, ◌%◌, ◌^◌, ◌<◌, ◌≤◌, ◌≢◌, List, [], ◌∷◌, ◌++◌, get_or, set, replicate, Err, sym, refl, ap, subst, zero-add, add-one, arith}
 use borrow.Author.Tests.{lt-leb}
 use Rattle.control.specs.Bus.{signed}
 use Rattle.ijvm.specs.declared.cases.Case.{Case}
-use Rattle.ijvm.specs.declared.cases.Case.TheVariants.{Bipush, Iload, Istore, Iadd, Iinc, IfeqFalls, IfeqTaken, Goto, Ireturn}
+use Rattle.ijvm.specs.declared.cases.Case.TheVariants.{Bipush, Iload, Istore, Iadd, Iinc, IfeqFalls, IfeqTaken, Goto}
 use Rattle.ijvm.specs.declared.refusal.StepRefusal.TheVariants.{End}
 use Rattle.ijvm.specs.Machine.{Ijvm, byte_of}
 use Rattle.ijvm.specs.Table.{effect_of}
 use Rattle.ijvm.specs.Step.{step_of}
 use Rattle.ijvm.specs.Stands.{Takes}
 use Rattle.ijvm.specs.Sound.{Sound}
-use Rattle.ijvm.specs.Performed.{Performs, after, total}
+use Rattle.ijvm.specs.Performed.{Performs, total}
 use Rattle.ijvm.specs.Summing.{program, summing, head, turn, one_lower, last_turn, loop, up_to, method, start, finish, TakesOnTheMic1, ATurnTakes, TheLoopTakes, TheMethodTakes}
 use Rattle.ijvm.proofs.Applied.{step_of_lem}
 use Rattle.ijvm.proofs.Lists.{performs_both}

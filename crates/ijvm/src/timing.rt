@@ -11,7 +11,7 @@ const CYCLES: [u64; 24] = [
 
 // The whole table: an entry for each case.
 pub fn cycle_table() -> [u64; 24]
-    ensures* constant { do ⌜ result ≡ (← (⟦CYCLES⟧).entry) ⌝ }
+    ensures constant { result ≡ CYCLES }
     ensures entries { result ≡ map cycles_of cases }
 {
     CYCLES

@@ -1,5 +1,5 @@
 -- What a memory means, and what each call answers and leaves.
-use Rattle.std.specs.Prelude.{ℕ, ◌≤◌, Bool, true, false, cond, ◌||◌, List, length, is_ok, Ok, Err, Result, nat_le, nat_lt, slice_index, slice_set}
+use Rattle.std.specs.Prelude.{ℕ, ◌≤◌, cond, ◌||◌, List, length, is_ok, Ok, Err, Result, nat_le, nat_lt, slice_index, slice_set}
 use Rattle.memory.specs.declared.refusal.AccessRefusal.{AccessRefusal}
 use Rattle.memory.specs.declared.refusal.AccessRefusal.TheVariants.{OutOfRange, Protected}
 use Rattle.memory.specs.declared.refusal.ProtectRefusal.{ProtectRefusal}

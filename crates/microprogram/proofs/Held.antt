@@ -1,11 +1,11 @@
 -- The published control store holds the listing: computed.
-use Rattle.std.proofs.Common.{◌≡◌, ℕ, ◌+◌, ◌<◌, Bool, true, false, ◌&&◌, ◌||◌, eqb, List, [], ◌∷◌, length, get_or, refl, subst, arith}
+use Rattle.std.proofs.Common.{◌≡◌, ℕ, ◌+◌, Bool, true, false, ◌&&◌, ◌||◌, eqb, List, [], ◌∷◌, get_or, refl, subst, arith}
 use Rattle.std.proofs.lemmas.Bool.{eqb-true, and_parts}
 use Rattle.microprogram.specs.Listing.{listing}
 use Rattle.microprogram.specs.Listing.Labels.{address}
 use Rattle.microprogram.specs.Listing.Lines.{Line, ◌▸◌, held, labels, word, first}
 use Rattle.microprogram.specs.Published.{published}
-use Rattle.microprogram.specs.Store.{EachLineHeld, among, distinct, within, taken, Free, Required, HoldsTheListing}
+use Rattle.microprogram.specs.Store.{EachLineHeld, among, distinct, within, taken, HoldsTheListing}
 use Rattle.microprogram.proofs.Table.{every, at}
 
 -- an address is taken, or its number is 0

@@ -3,7 +3,7 @@ use Rattle.std.specs.Prelude.{◌≡◌, ℕ, ◌+◌, ◌<◌, Bool, true, fals
 use Rattle.microprogram.specs.Listing.{listing}
 use Rattle.microprogram.specs.Listing.Labels as label
 use Rattle.microprogram.specs.Listing.Labels.{Label, address}
-use Rattle.microprogram.specs.Listing.Lines.{Line, ◌▸◌, word, first, held, labels}
+use Rattle.microprogram.specs.Listing.Lines.{Line, ◌▸◌, word, first, labels}
 
 -- At the address of each line stands the line's word.
 unfoldable pub EachLineHeld : List ℕ → List Line → Type 0

@@ -1,5 +1,5 @@
 -- Worked examples: control words of the textbook, as lines of the listing's notation and as what they do.
-use Rattle.std.specs.Prelude.{◌≡◌, ℕ, true, false, slice_index_or}
+use Rattle.std.specs.Prelude.{◌≡◌, true, false, slice_index_or}
 use Rattle.control.specs.Alu.{alu_of, shift_of}
 use Rattle.control.specs.Control.{fields_of}
 use Rattle.microprogram.specs.Listing.Labels.{address}

@@ -1,5 +1,5 @@
 -- A control word as text, in the notation of the textbook's slides.
-use Rattle.std.specs.Prelude.{ℕ, zero, suc, ◌*◌, ◌/◌, ◌%◌, ◌^◌, Bool, true, false, cond, ◌||◌, List, [], ◌∷◌, ◌++◌, Some, None, codes, Option, ◌==◌, bit_or, nat_le}
+use Rattle.std.specs.Prelude.{ℕ, zero, suc, ◌*◌, ◌/◌, ◌%◌, ◌^◌, Bool, true, false, cond, ◌||◌, List, [], ◌++◌, Some, None, codes, Option, ◌==◌, bit_or, nat_le}
 use Rattle.control.specs.declared.control.CBits.{CBits}
 use Rattle.control.specs.declared.control.ControlWord.{ControlWord}
 use Rattle.control.specs.declared.alu_table.Function.{Function}

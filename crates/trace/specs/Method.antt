@@ -1,5 +1,5 @@
 -- The summing method, and the instructions by name.
-use Rattle.std.specs.Prelude.{ℕ, ◌+◌, ◌*◌, ◌^◌, cond, List, [], ◌∷◌, ◌++◌, replicate, codes, ◌==◌}
+use Rattle.std.specs.Prelude.{ℕ, ◌+◌, ◌*◌, ◌^◌, cond, List, ◌∷◌, replicate, codes, ◌==◌}
 
 -- The words of the memory: nine protected ones with the method, its number of turns in the second byte of the second; then main's link, which points past the two variables; the rest is 0.
 abbrev pub method_words_of : ℕ → List ℕ

@@ -1,5 +1,5 @@
 -- The notation of a line, `label ▸ operation ⨾ operation ⨾ …`, and the control word that it makes.
-use Rattle.std.specs.Prelude.{ℕ, ◌+◌, ◌*◌, ◌^◌, Bool, true, false, List, [], ◌∷◌, ◌==◌}
+use Rattle.std.specs.Prelude.{ℕ, ◌+◌, ◌*◌, ◌^◌, true, false, List, [], ◌∷◌, ◌==◌}
 use Rattle.control.specs.Format.{NEXT, JMPC, WRITE, READ, FETCH}
 use Rattle.microprogram.specs.Listing.Expressions.{signals_for}
 use Rattle.microprogram.specs.Listing.Labels.{Label}

@@ -4,4 +4,4 @@ use Rattle.ijvm.proofs.Turns.{a_turn_takes}
 use Rattle.ijvm.proofs.summing_method.turn.Goals as goal
 
 pub returns : goal.returns
-returns c = record { count = c.eight-entries.ensures; turn = subst ATurnTakes (sym c.eight-entries.ensures) a_turn_takes }
+returns c = record { count = c.eight_entries.ensures; turn = subst ATurnTakes (sym c.eight_entries.ensures) a_turn_takes }
