@@ -4,13 +4,13 @@ use Rattle.control.specs.Alu.{alu_of, shift_of}
 use Rattle.control.specs.Control.{fields_of}
 use Rattle.microprogram.specs.Listing.Labels.{address}
 use Rattle.microprogram.specs.Listing.Lines.{◌≔◌, word}
-use Rattle.microprogram.specs.Listing.Values.{H, OPC, SP, TOS, ◌+◌}
+use Rattle.microprogram.specs.Listing.Values.{H, OPC, SP, TOS, ◌＋◌}
 use Rattle.microprogram.specs.Published.{published}
 
 pub record WorkedExamples : Type 0 where
   -- H = TOS, then SP = H + OPC, where NEXT is 0
   pub h_tos : word address 0 (H ≔ TOS) ≡ 0x148007
-  pub sp_h_opc : word address 0 (SP ≔ H + OPC) ≡ 0x3C0408
+  pub sp_h_opc : word address 0 (SP ≔ H ＋ OPC) ≡ 0x3C0408
   -- the interpreter's loop
   pub main : slice_index_or published 0x100 0 ≡ 0x4350211
   -- the bus through the ALU, under SLL8: a result of 0x01000000 is neither negative nor zero, and puts 0 on the C bus

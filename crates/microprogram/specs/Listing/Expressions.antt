@@ -5,7 +5,7 @@ use Rattle.control.specs.declared.alu_table.Function.TheVariants.{A as is_a, B a
 use Rattle.control.specs.AluTable.{Row, row, table, signals}
 use Rattle.control.specs.Format.{INC}
 
-infixl 90 ◌+◌
+infixl 90 ◌＋◌
 infixl 90 ◌−◌
 infixl 90 ◌AND◌
 infixl 90 ◌OR◌
@@ -14,7 +14,7 @@ infix 95 NOT◌
 pub data Expression : Type 0 where
   A B 𝟎 𝟏 : Expression
   NOT◌ −◌ : Expression → Expression
-  ◌+◌ ◌−◌ ◌AND◌ ◌OR◌ : Expression → Expression → Expression
+  ◌＋◌ ◌−◌ ◌AND◌ ◌OR◌ : Expression → Expression → Expression
   deriving Discrete as same
 
 -- The functions of the published ALU table, written out.
@@ -23,10 +23,10 @@ written is_a = A
 written is_b = B
 written NotA = NOT A
 written NotB = NOT B
-written APlusB = A + B
-written APlusBPlus1 = A + B + 𝟏
-written APlus1 = A + 𝟏
-written BPlus1 = B + 𝟏
+written APlusB = A ＋ B
+written APlusBPlus1 = A ＋ B ＋ 𝟏
+written APlus1 = A ＋ 𝟏
+written BPlus1 = B ＋ 𝟏
 written BMinusA = B − A
 written BMinus1 = B − 𝟏
 written MinusA = − A

@@ -1,9 +1,9 @@
 -- What stands on either side of an `≔` in the listing, by what it sets in the control word.
-use Rattle.std.specs.Prelude.{ℕ, ◌+◌ as ◌plus◌, ◌^◌}
+use Rattle.std.specs.Prelude.{ℕ, ◌+◌, ◌^◌}
 use Rattle.control.specs.Format as format
 use Rattle.microprogram.specs.Listing.Expressions.{Expression, A, B, 𝟎, 𝟏 as one, same}
 
-infixl 90 ◌+◌
+infixl 90 ◌＋◌
 infixl 90 ◌−◌
 infixl 90 ◌AND◌
 infixl 90 ◌OR◌
@@ -70,17 +70,17 @@ abbrev pub 𝟏 : Value
 abbrev ordered : (Expression → Expression → Expression) → Expression → Expression → Expression
 ordered op e f = elim (same f A) [ yes _ ↦ op f e | no _ ↦ op e f ]
 
-abbrev pub ◌+◌ : Value → Value → Value
-x + y = register 0 (ordered Expression.◌+◌ x.computes y.computes) (x.bus plus y.bus)
+abbrev pub ◌＋◌ : Value → Value → Value
+x ＋ y = register 0 (ordered Expression.◌＋◌ x.computes y.computes) (x.bus + y.bus)
 
 abbrev pub ◌AND◌ : Value → Value → Value
-x AND y = register 0 (ordered Expression.◌AND◌ x.computes y.computes) (x.bus plus y.bus)
+x AND y = register 0 (ordered Expression.◌AND◌ x.computes y.computes) (x.bus + y.bus)
 
 abbrev pub ◌OR◌ : Value → Value → Value
-x OR y = register 0 (ordered Expression.◌OR◌ x.computes y.computes) (x.bus plus y.bus)
+x OR y = register 0 (ordered Expression.◌OR◌ x.computes y.computes) (x.bus + y.bus)
 
 abbrev pub ◌−◌ : Value → Value → Value
-x − y = register 0 (Expression.◌−◌ x.computes y.computes) (x.bus plus y.bus)
+x − y = register 0 (Expression.◌−◌ x.computes y.computes) (x.bus + y.bus)
 
 abbrev pub ◌<<8 : Value → Value
 x <<8 = record { loads = 0; jams = 0; computes = x.computes; bus = x.bus; shifts = 2 ^ format.SLL8 }
