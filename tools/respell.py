@@ -1,8 +1,9 @@
 #!/usr/bin/env python3
 """Brings this repository's own definitions and lemmas to one spelling: run once, at the top, right after the kit's port.py.
 
-Types, and facts, are in upper camel case; every other definition, lemma, field and constructor is in snake case. A dash joins the
-names of two definitions of which a lemma speaks. Names from the source keep their spelling, and so do the names of goals.
+Types, and facts, are in upper camel case; every other definition, lemma, field and constructor is in snake case. A name that ended
+in Text ends in _text_of, since functions have the plain names. Where a lemma speaks of two definitions, a dash joins their names:
+these stand in CHOSEN. Names from the source keep their spelling, and so do the names of goals; comments are turned as well.
 Prints each name that it turns, and stops where two names would fall together.
 """
 import re
