@@ -1,7 +1,7 @@
 -- A cycle whose data access is refused.
 use Rattle.std.proofs.Common.{◌≡◌, ℕ, cond, List, is_ok, Some, None, Ok, Err, Option, Result, sym, refl, ap, ◌∙◌, arith}
 use Rattle.memory.specs.Meaning.{Meaning, write_of}
-use Rattle.memory.specs.declared.refusal.AccessRefusal.{AccessRefusal}
+use Rattle.memory.specs.declared.access_refusal.AccessRefusal.{AccessRefusal}
 use Rattle.datapath.specs.declared.pending.DataAccess.{DataAccess}
 use Rattle.datapath.specs.declared.pending.DataAccess.TheVariants.{Read as Reading, Write as Writing}
 use Rattle.datapath.specs.declared.pending.Port.TheVariants.{Write as WritePort}

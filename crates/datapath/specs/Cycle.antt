@@ -1,7 +1,7 @@
 -- The rule of one cycle, in its six points.
 use Rattle.std.specs.Prelude.{ℕ, ◌+◌, ◌-◌, ◌*◌, ◌/◌, ◌%◌, ◌^◌, Bool, cond, ◌&&◌, ◌||◌, List, Some, None, Ok, Err, Option, Result, ◌==◌, bit_or, slice_index}
 use Rattle.memory.specs.Meaning.{Meaning, read_of, write_of, written_of}
-use Rattle.memory.specs.declared.refusal.AccessRefusal.{AccessRefusal}
+use Rattle.memory.specs.declared.access_refusal.AccessRefusal.{AccessRefusal}
 use Rattle.control.specs.declared.control.ControlWord.{ControlWord}
 use Rattle.control.specs.declared.register_file.Registers.{Registers}
 use Rattle.datapath.specs.declared.pending.DataAccess.{DataAccess}

@@ -1,6 +1,6 @@
 -- Copying a word of a memory to another address of it.
 use Rattle.std.specs.Prelude.{ℕ, Ok, Err, Result}
-use Rattle.memory.specs.declared.refusal.AccessRefusal.{AccessRefusal}
+use Rattle.memory.specs.declared.access_refusal.AccessRefusal.{AccessRefusal}
 use Rattle.memory.specs.Meaning.{Meaning, read_of, write_of, written_of}
 
 -- What a write of the word that was read answers; the read's refusal where there is none.

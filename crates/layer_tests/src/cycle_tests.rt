@@ -134,7 +134,7 @@ mod tests {
         assert_eq!(rt; machine.state().mbr, 0x11);
         let memory = machine.into_memory();
         assert!(rt; memory.read(0).is_ok());
-        assert_eq!(rt; memory.into_words()[0], 0);
+        assert_eq!(rt; memory.into_cells()[0], 0);
         Ok(())
     }
 

@@ -5,7 +5,7 @@ ghost use Rattle.std.specs.Prelude.{◌≡◌, ◌^◌};
 ghost use Rattle.layer_tests.specs.Moved.{move_of, moved_of};
 ghost use Rattle.memory.specs.Cells.{made_of, usable, unused};
 
-use memory::{AccessRefusal, ByteMemory, Memory, WordMemory};
+use memory::{AccessRefusal, Cell, LentMemory, Memory};
 
 mod control_tests;
 mod cycle_tests;
@@ -21,26 +21,16 @@ pub fn move_word<M: Memory>(memory: &mut M, from: u32, to: u32) -> Result<(), Ac
     memory.write(to, word)
 }
 
-// The same in a buffer of words, which comes back.
-pub fn moved_in_words<'a>(buffer: &'a mut [u32], from: u32, to: u32) -> &'a mut [u32]
+// The same in a lent buffer, of words or of bytes, which comes back.
+pub fn moved_in<'a, C: Cell>(buffer: &'a mut [C], from: u32, to: u32) -> &'a mut [C]
     ensures lender { result.ghost_name ≡ buffer.entry.ghost_name }
-    ensures words { usable 1 (2 ^ 32) result.now ≡ (moved_of (made_of 1 (2 ^ 32) buffer.old) from to).words }
-    ensures unused { unused 1 result.now ≡ unused 1 buffer.old }
+    ensures words { usable C.PER_WORD C.base (C.digits result.now) ≡ (moved_of (made_of C.PER_WORD C.base (C.digits buffer.old)) from to).words }
+    ensures unused { unused C.PER_WORD (C.digits result.now) ≡ unused C.PER_WORD (C.digits buffer.old) }
 {
-    let mut memory = WordMemory::make(buffer);
+    let mut memory = LentMemory::make(buffer);
+    // a refused move leaves the buffer, as the contract says
     let _ = move_word(&mut memory, from, to);
-    memory.into_words()
-}
-
-// The same in a buffer of bytes.
-pub fn moved_in_bytes<'a>(buffer: &'a mut [u8], from: u32, to: u32) -> &'a mut [u8]
-    ensures lender { result.ghost_name ≡ buffer.entry.ghost_name }
-    ensures words { usable 4 (2 ^ 8) result.now ≡ (moved_of (made_of 4 (2 ^ 8) buffer.old) from to).words }
-    ensures unused { unused 4 result.now ≡ unused 4 buffer.old }
-{
-    let mut memory = ByteMemory::make(buffer);
-    let _ = move_word(&mut memory, from, to);
-    memory.into_bytes()
+    memory.into_cells()
 }
 
 // The lender of a buffer of words knows what it holds afterwards.
@@ -48,5 +38,5 @@ pub fn move_in_words(buffer: &mut [u32], from: u32, to: u32)
     ensures words { usable 1 (2 ^ 32) buffer.new ≡ (moved_of (made_of 1 (2 ^ 32) buffer.old) from to).words }
     ensures unused { unused 1 buffer.new ≡ unused 1 buffer.old }
 {
-    let _back = moved_in_words(buffer, from, to);
+    let _back = moved_in(buffer, from, to);
 }

@@ -1,56 +1,26 @@
 // Examples of the memories, by hand.
 #[cfg(test)]
 mod tests {
-    use crate::{move_word, moved_in_bytes};
+    use crate::{move_word, moved_in};
     use memory::{AccessRefusal, ByteMemory, MakeRefusal, Memory, ProtectRefusal, WordMemory};
     use std::process::Abort;
     use std::test::Fail;
-
-    // the number of a refusal, 0 for none
-    fn made(refusal: Option<MakeRefusal>) -> u32 {
-        match refusal {
-            Some(refusal) => refusal.number(),
-            None => 0,
-        }
-    }
-
-    fn wrote(answer: Result<(), AccessRefusal>) -> u32 {
-        match answer {
-            Ok(()) => 0,
-            Err(refusal) => refusal.number(),
-        }
-    }
-
-    fn protected(answer: Result<(), ProtectRefusal>) -> u32 {
-        match answer {
-            Ok(()) => 0,
-            Err(refusal) => refusal.number(),
-        }
-    }
-
-    // the word, and 0; or 0, and the refusal's number
-    fn word(answer: Result<u32, AccessRefusal>) -> (u32, u32) {
-        match answer {
-            Ok(word) => (word, 0),
-            Err(refusal) => (0, refusal.number()),
-        }
-    }
 
     // mark 9, size 32: write refuses 8 with 5 and 32 with 4, and takes 9 and 31
     fn marks<M: Memory>(rt: &impl Abort, memory: &mut M) {
         assert_eq!(rt; memory.size(), 32);
         assert_eq!(rt; memory.mark(), 0);
-        assert_eq!(rt; wrote(memory.write(8, 1)), 0);
-        assert_eq!(rt; protected(memory.protect(9)), 0);
+        assert_eq!(rt; memory.write(8, 1), Ok(()));
+        assert_eq!(rt; memory.protect(9), Ok(()));
         assert_eq!(rt; memory.mark(), 9);
-        assert_eq!(rt; wrote(memory.write(8, 7)), 5);
-        assert_eq!(rt; wrote(memory.write(32, 7)), 4);
-        assert_eq!(rt; wrote(memory.write(9, 7)), 0);
-        assert_eq!(rt; wrote(memory.write(31, 8)), 0);
-        assert_eq!(rt; word(memory.read(8)), (1, 0));
-        assert_eq!(rt; word(memory.read(9)), (7, 0));
-        assert_eq!(rt; word(memory.read(31)), (8, 0));
-        assert_eq!(rt; word(memory.read(32)), (0, 4));
+        assert_eq!(rt; memory.write(8, 7).map_err(AccessRefusal::number), Err(5));
+        assert_eq!(rt; memory.write(32, 7).map_err(AccessRefusal::number), Err(4));
+        assert_eq!(rt; memory.write(9, 7), Ok(()));
+        assert_eq!(rt; memory.write(31, 8), Ok(()));
+        assert_eq!(rt; memory.read(8), Ok(1));
+        assert_eq!(rt; memory.read(9), Ok(7));
+        assert_eq!(rt; memory.read(31), Ok(8));
+        assert_eq!(rt; memory.read(32).map_err(AccessRefusal::number), Err(4));
     }
 
     #[test]
@@ -63,14 +33,14 @@ mod tests {
 
     // the mark rises, as far as the size, and never falls
     fn rises<M: Memory>(rt: &impl Abort, memory: &mut M) {
-        assert_eq!(rt; protected(memory.protect(17)), 6);
-        assert_eq!(rt; protected(memory.protect(5)), 0);
-        assert_eq!(rt; protected(memory.protect(4)), 6);
-        assert_eq!(rt; protected(memory.protect(5)), 0);
+        assert_eq!(rt; memory.protect(17).map_err(ProtectRefusal::number), Err(6));
+        assert_eq!(rt; memory.protect(5), Ok(()));
+        assert_eq!(rt; memory.protect(4).map_err(ProtectRefusal::number), Err(6));
+        assert_eq!(rt; memory.protect(5), Ok(()));
         assert_eq!(rt; memory.mark(), 5);
-        assert_eq!(rt; protected(memory.protect(16)), 0);
-        assert_eq!(rt; wrote(memory.write(15, 1)), 5);
-        assert_eq!(rt; wrote(memory.write(16, 1)), 4);
+        assert_eq!(rt; memory.protect(16), Ok(()));
+        assert_eq!(rt; memory.write(15, 1).map_err(AccessRefusal::number), Err(5));
+        assert_eq!(rt; memory.write(16, 1).map_err(AccessRefusal::number), Err(4));
     }
 
     #[test]
@@ -90,10 +60,10 @@ mod tests {
         bytes[3] = 0x78;
         bytes[7] = 0xFF;
         let mut memory = ByteMemory::make(&mut bytes);
-        assert_eq!(rt; word(memory.read(0)), (0x1234_5678, 0));
-        assert_eq!(rt; word(memory.read(1)), (0xFF, 0));
-        assert_eq!(rt; wrote(memory.write(15, 0xCAFE_BABE)), 0);
-        let back = memory.into_bytes();
+        assert_eq!(rt; memory.read(0), Ok(0x1234_5678));
+        assert_eq!(rt; memory.read(1), Ok(0xFF));
+        assert_eq!(rt; memory.write(15, 0xCAFE_BABE), Ok(()));
+        let back = memory.into_cells();
         assert!(rt; back.len() == 64);
         assert_eq!(rt; (back[59], back[60], back[61]), (0, 0xCA, 0xFE));
         assert_eq!(rt; (back[62], back[63]), (0xBA, 0xBE));
@@ -102,13 +72,31 @@ mod tests {
     #[test]
     fn byte_lengths_around_sixteen_words(rt: HostRuntime) {
         let bytes = [0u8; 66];
-        assert_eq!(rt; made(ByteMemory::refusal(&bytes[0..63])), 2);
-        assert_eq!(rt; made(ByteMemory::refusal(&bytes[0..64])), 0);
-        assert_eq!(rt; made(ByteMemory::refusal(&bytes[0..65])), 2);
-        assert_eq!(rt; made(ByteMemory::refusal(&bytes[0..66])), 2);
-        assert_eq!(rt; made(ByteMemory::refusal(&bytes[0..60])), 1);
-        assert_eq!(rt; made(ByteMemory::refusal(&bytes[0..0])), 1);
-        assert_eq!(rt; made(ByteMemory::refusal(&bytes[0..3])), 2);
+        assert_eq!(rt;
+            ByteMemory::refusal(&bytes[0..63]).map(MakeRefusal::number),
+            Some(2)
+        );
+        assert_eq!(rt; ByteMemory::refusal(&bytes[0..64]), None);
+        assert_eq!(rt;
+            ByteMemory::refusal(&bytes[0..65]).map(MakeRefusal::number),
+            Some(2)
+        );
+        assert_eq!(rt;
+            ByteMemory::refusal(&bytes[0..66]).map(MakeRefusal::number),
+            Some(2)
+        );
+        assert_eq!(rt;
+            ByteMemory::refusal(&bytes[0..60]).map(MakeRefusal::number),
+            Some(1)
+        );
+        assert_eq!(rt;
+            ByteMemory::refusal(&bytes[0..0]).map(MakeRefusal::number),
+            Some(1)
+        );
+        assert_eq!(rt;
+            ByteMemory::refusal(&bytes[0..3]).map(MakeRefusal::number),
+            Some(2)
+        );
     }
 
     #[test]
@@ -116,16 +104,28 @@ mod tests {
         let words = vec![in rt.alloc(); 0u32; 1_048_577]?;
         let words = words.as_slice();
         assert!(rt; words.len() == 1_048_577);
-        assert_eq!(rt; made(WordMemory::refusal(&words[0..15])), 1);
-        assert_eq!(rt; made(WordMemory::refusal(&words[0..16])), 0);
-        assert_eq!(rt; made(WordMemory::refusal(&words[0..1_048_576])), 0);
-        assert_eq!(rt; made(WordMemory::refusal(words)), 1);
+        assert_eq!(rt;
+            WordMemory::refusal(&words[0..15]).map(MakeRefusal::number),
+            Some(1)
+        );
+        assert_eq!(rt; WordMemory::refusal(&words[0..16]), None);
+        assert_eq!(rt; WordMemory::refusal(&words[0..1_048_576]), None);
+        assert_eq!(rt;
+            WordMemory::refusal(words).map(MakeRefusal::number),
+            Some(1)
+        );
         let bytes = vec![in rt.alloc(); 0u8; 4_194_308]?;
         let bytes = bytes.as_slice();
         assert!(rt; bytes.len() == 4_194_308);
-        assert_eq!(rt; made(ByteMemory::refusal(&bytes[0..4_194_304])), 0);
-        assert_eq!(rt; made(ByteMemory::refusal(&bytes[0..4_194_305])), 2);
-        assert_eq!(rt; made(ByteMemory::refusal(bytes)), 1);
+        assert_eq!(rt; ByteMemory::refusal(&bytes[0..4_194_304]), None);
+        assert_eq!(rt;
+            ByteMemory::refusal(&bytes[0..4_194_305]).map(MakeRefusal::number),
+            Some(2)
+        );
+        assert_eq!(rt;
+            ByteMemory::refusal(bytes).map(MakeRefusal::number),
+            Some(1)
+        );
         Ok(())
     }
 
@@ -133,10 +133,10 @@ mod tests {
     fn empty<M: Memory>(rt: &impl Abort, memory: &mut M) {
         assert_eq!(rt; memory.size(), 0);
         assert_eq!(rt; memory.mark(), 0);
-        assert_eq!(rt; word(memory.read(0)), (0, 4));
-        assert_eq!(rt; wrote(memory.write(0, 9)), 4);
-        assert_eq!(rt; protected(memory.protect(1)), 6);
-        assert_eq!(rt; protected(memory.protect(0)), 0);
+        assert_eq!(rt; memory.read(0).map_err(AccessRefusal::number), Err(4));
+        assert_eq!(rt; memory.write(0, 9).map_err(AccessRefusal::number), Err(4));
+        assert_eq!(rt; memory.protect(1).map_err(ProtectRefusal::number), Err(6));
+        assert_eq!(rt; memory.protect(0), Ok(()));
     }
 
     #[test]
@@ -144,7 +144,7 @@ mod tests {
         let mut words = [7u32; 15];
         let mut memory = WordMemory::make(&mut words);
         empty(&rt, &mut memory);
-        let back = memory.into_words();
+        let back = memory.into_cells();
         assert!(rt; back.len() == 15);
         assert_eq!(rt; (back[0], back[14]), (7, 7));
         let mut bytes = [7u8; 65];
@@ -154,13 +154,22 @@ mod tests {
 
     // one generic function with both makes
     fn moves<M: Memory>(rt: &impl Abort, memory: &mut M) {
-        assert_eq!(rt; wrote(memory.write(3, 0x0102_0304)), 0);
-        assert_eq!(rt; wrote(move_word(memory, 3, 15)), 0);
-        assert_eq!(rt; word(memory.read(15)), (0x0102_0304, 0));
-        assert_eq!(rt; wrote(move_word(memory, 16, 0)), 4);
-        assert_eq!(rt; wrote(move_word(memory, 0, 16)), 4);
-        assert_eq!(rt; protected(memory.protect(16)), 0);
-        assert_eq!(rt; wrote(move_word(memory, 3, 15)), 5);
+        assert_eq!(rt; memory.write(3, 0x0102_0304), Ok(()));
+        assert_eq!(rt; move_word(memory, 3, 15), Ok(()));
+        assert_eq!(rt; memory.read(15), Ok(0x0102_0304));
+        assert_eq!(rt;
+            move_word(memory, 16, 0).map_err(AccessRefusal::number),
+            Err(4)
+        );
+        assert_eq!(rt;
+            move_word(memory, 0, 16).map_err(AccessRefusal::number),
+            Err(4)
+        );
+        assert_eq!(rt; memory.protect(16), Ok(()));
+        assert_eq!(rt;
+            move_word(memory, 3, 15).map_err(AccessRefusal::number),
+            Err(5)
+        );
     }
 
     #[test]
@@ -176,7 +185,7 @@ mod tests {
         let mut bytes = [0u8; 64];
         bytes[4] = 0xAB;
         bytes[7] = 0xCD;
-        let back = moved_in_bytes(&mut bytes, 1, 2);
+        let back = moved_in(&mut bytes, 1, 2);
         assert!(rt; back.len() == 64);
         assert_eq!(rt; (back[8], back[11]), (0xAB, 0xCD));
         assert_eq!(rt; (back[4], back[7]), (0xAB, 0xCD));

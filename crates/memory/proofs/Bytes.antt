@@ -1,9 +1,9 @@
 -- A word by its four bytes.
-use Rattle.std.proofs.Common.{◌≡◌, ℕ, ◌+◌, ◌*◌, ◌/◌, ◌%◌, ◌^◌, ◌<◌, List, [], ◌∷◌, length, set, refl, ap, ◌∙◌, arith}
+use Rattle.std.proofs.Common.{◌≡◌, ℕ, ◌+◌, ◌*◌, ◌/◌, ◌%◌, ◌^◌, ◌<◌, List, [], ◌∷◌, length, arith}
 use Rattle.std.specs.Int.Digits.{number_from_digits}
 use Rattle.std.proofs.lemmas.Nat.{shr-shr, div-add-mod'}
 use Rattle.memory.specs.Cells.{words_of}
-use Rattle.memory.proofs.Words.{length-words_of, words_of-put}
+use Rattle.memory.proofs.Words.{length-words_of}
 
 -- a number below 2 ^ 32 is what its four digits in the base 256 write
 pub four_bytes : (w : ℕ) → w < 2 ^ 32 → number_from_digits 256 (w / 16777216 % 256 ∷ (w / 65536 % 256 ∷ (w / 256 % 256 ∷ (w % 256 ∷ [])))) ≡ w
@@ -17,10 +17,6 @@ four_bytes w h =
     omega arith
 
 -- the four bytes of a word, written one after the other
-pub words_of-put_bytes : (cells : List ℕ) (a x y z u : ℕ) → a < length cells / 4 → words_of 4 256 (set (set (set (set cells (4 * a) x) (4 * a + 1) y) (4 * a + 2) z) (4 * a + 3) u) ≡ set (words_of 4 256 cells) a (number_from_digits 256 (x ∷ (y ∷ (z ∷ (u ∷ [])))))
-words_of-put_bytes cells a x y z u h =
-    ap (λ i. words_of 4 256 (set (set (set (set cells i x) (4 * a + 1) y) (4 * a + 2) z) (4 * a + 3) u)) {x = 4 * a} {y = 4 * a + 0} (omega arith)
-    ∙ words_of-put 4 256 cells (x ∷ (y ∷ (z ∷ (u ∷ [])))) a (omega arith) refl h
 
 -- the bytes of a word lie in the buffer
 pub byte_within : (cells : List ℕ) (a k : ℕ) → a < length (words_of 4 256 cells) → k < 4 → 4 * a + k < length cells

@@ -3,8 +3,8 @@ use Rattle.std.specs.Prelude.{ℕ, ◌+◌, ◌*◌, ◌/◌, ◌%◌, cond, not
 use Rattle.std.specs.List.{range_with_len}
 use Rattle.std.specs.Int.Digits.{number_from_digits}
 use Rattle.memory.specs.Meaning.{Meaning}
-use Rattle.memory.specs.declared.refusal.MakeRefusal.{MakeRefusal}
-use Rattle.memory.specs.declared.refusal.MakeRefusal.TheVariants.{WrongSize, BrokenWord}
+use Rattle.memory.specs.declared.make_refusal.MakeRefusal.{MakeRefusal}
+use Rattle.memory.specs.declared.make_refusal.MakeRefusal.TheVariants.{WrongSize, BrokenWord}
 
 -- The word at address a is n cells in a row, read as the digits of a number in the base b, the most significant first.
 abbrev pub word_at : (n b : ℕ) → List ℕ → ℕ → ℕ

@@ -1,9 +1,9 @@
 -- What a memory means, and what each call answers and leaves.
 use Rattle.std.specs.Prelude.{ℕ, ◌≤◌, cond, ◌||◌, List, length, is_ok, Ok, Err, Result, nat_le, nat_lt, slice_index, slice_set}
-use Rattle.memory.specs.declared.refusal.AccessRefusal.{AccessRefusal}
-use Rattle.memory.specs.declared.refusal.AccessRefusal.TheVariants.{OutOfRange, Protected}
-use Rattle.memory.specs.declared.refusal.ProtectRefusal.{ProtectRefusal}
-use Rattle.memory.specs.declared.refusal.ProtectRefusal.TheVariants.{WrongMark}
+use Rattle.memory.specs.declared.access_refusal.AccessRefusal.{AccessRefusal}
+use Rattle.memory.specs.declared.access_refusal.AccessRefusal.TheVariants.{OutOfRange, Protected}
+use Rattle.memory.specs.declared.protect_refusal.ProtectRefusal.{ProtectRefusal}
+use Rattle.memory.specs.declared.protect_refusal.ProtectRefusal.TheVariants.{WrongMark}
 
 -- A memory means a list of words and a mark. The words below the mark are protected.
 pub record Meaning : Type 0 where

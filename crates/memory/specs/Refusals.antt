@@ -1,11 +1,11 @@
 -- The refusals of the memory's calls, by their numbers in the manual.
-use Rattle.std.specs.Prelude.{ℕ}
-use Rattle.memory.specs.declared.refusal.MakeRefusal.{MakeRefusal}
-use Rattle.memory.specs.declared.refusal.MakeRefusal.TheVariants.{WrongSize, BrokenWord}
-use Rattle.memory.specs.declared.refusal.AccessRefusal.{AccessRefusal}
-use Rattle.memory.specs.declared.refusal.AccessRefusal.TheVariants.{OutOfRange, Protected}
-use Rattle.memory.specs.declared.refusal.ProtectRefusal.{ProtectRefusal}
-use Rattle.memory.specs.declared.refusal.ProtectRefusal.TheVariants.{WrongMark}
+use Rattle.std.specs.Prelude.{ℕ, List, codes}
+use Rattle.memory.specs.declared.make_refusal.MakeRefusal.{MakeRefusal}
+use Rattle.memory.specs.declared.make_refusal.MakeRefusal.TheVariants.{WrongSize, BrokenWord}
+use Rattle.memory.specs.declared.access_refusal.AccessRefusal.{AccessRefusal}
+use Rattle.memory.specs.declared.access_refusal.AccessRefusal.TheVariants.{OutOfRange, Protected}
+use Rattle.memory.specs.declared.protect_refusal.ProtectRefusal.{ProtectRefusal}
+use Rattle.memory.specs.declared.protect_refusal.ProtectRefusal.TheVariants.{WrongMark}
 
 -- Make: 1 for a size outside 16 to 1,048,576; 2 for a buffer whose length is no whole number of words.
 abbrev pub make_number : MakeRefusal → ℕ
@@ -20,3 +20,15 @@ access_number Protected = 5
 -- Protect: 6 for a mark below the present one or above the size.
 abbrev pub protect_number : ProtectRefusal → ℕ
 protect_number WrongMark = 6
+
+-- The refusals as text.
+abbrev pub make_text : MakeRefusal → List ℕ
+make_text WrongSize = codes "refused 1: the size is not from 16 to 1048576 words"
+make_text BrokenWord = codes "refused 2: the buffer is no whole number of words"
+
+abbrev pub access_text : AccessRefusal → List ℕ
+access_text OutOfRange = codes "refused 4: the address is not below the size"
+access_text Protected = codes "refused 5: the word is protected"
+
+abbrev pub protect_text : ProtectRefusal → List ℕ
+protect_text WrongMark = codes "refused 6: the mark is below the present one or above the size"

@@ -5,13 +5,17 @@ ghost use Rattle.std.specs.Prelude.{◌≡◌};
 ghost use Rattle.memory.specs.Loans.{Loan};
 ghost use Rattle.memory.specs.Meaning.{Meaning, Proper, size_of, read_of, write_of, written_of, protect_of, protected_of};
 
-mod byte_memory;
-mod refusal;
-mod word_memory;
+mod access_refusal;
+mod cell;
+mod lent_memory;
+mod make_refusal;
+mod protect_refusal;
 
-pub use byte_memory::ByteMemory;
-pub use refusal::{AccessRefusal, MakeRefusal, ProtectRefusal};
-pub use word_memory::WordMemory;
+pub use access_refusal::AccessRefusal;
+pub use cell::Cell;
+pub use lent_memory::{ByteMemory, LentMemory, WordMemory};
+pub use make_refusal::MakeRefusal;
+pub use protect_refusal::ProtectRefusal;
 
 // A list of words with a mark below which they are protected, in buffers that its maker lent.
 pub trait Memory {

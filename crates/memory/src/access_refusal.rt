@@ -1,0 +1,37 @@
+// The refusal of read and write.
+ghost use Rattle.std.specs.Prelude.{◌≡◌, Some};
+ghost use Rattle.memory.specs.Refusals.{access_number, access_text};
+
+use std::error::Error;
+use std::fmt;
+
+// Why a word is neither read nor written.
+#[derive(Clone, Copy, Debug, PartialEq, Eq)]
+pub enum AccessRefusal {
+    // an address that is not below the size
+    OutOfRange = 4,
+    // a write below the mark
+    Protected = 5,
+}
+
+impl AccessRefusal {
+    // The number of the refusal.
+    pub fn number(self) -> u32
+        ensures { result ≡ access_number self }
+    {
+        self as u32
+    }
+}
+
+impl fmt::Display for AccessRefusal {
+    ghost output = { λ refusal. Some (access_text refusal) };
+
+    fn fmt<W: fmt::Write>(&self, f: &mut fmt::Formatter<W>) -> fmt::Result {
+        f.write_str(match self {
+            AccessRefusal::OutOfRange => "refused 4: the address is not below the size",
+            AccessRefusal::Protected => "refused 5: the word is protected",
+        })
+    }
+}
+
+impl Error for AccessRefusal {}

@@ -1,0 +1,37 @@
+// The refusal of make.
+ghost use Rattle.std.specs.Prelude.{◌≡◌, Some};
+ghost use Rattle.memory.specs.Refusals.{make_number, make_text};
+
+use std::error::Error;
+use std::fmt;
+
+// Why a buffer makes no memory.
+#[derive(Clone, Copy, Debug, PartialEq, Eq)]
+pub enum MakeRefusal {
+    // fewer than 16 words or more than 1,048,576
+    WrongSize = 1,
+    // a length that is no whole number of words
+    BrokenWord = 2,
+}
+
+impl MakeRefusal {
+    // The number of the refusal.
+    pub fn number(self) -> u32
+        ensures { result ≡ make_number self }
+    {
+        self as u32
+    }
+}
+
+impl fmt::Display for MakeRefusal {
+    ghost output = { λ refusal. Some (make_text refusal) };
+
+    fn fmt<W: fmt::Write>(&self, f: &mut fmt::Formatter<W>) -> fmt::Result {
+        f.write_str(match self {
+            MakeRefusal::WrongSize => "refused 1: the size is not from 16 to 1048576 words",
+            MakeRefusal::BrokenWord => "refused 2: the buffer is no whole number of words",
+        })
+    }
+}
+
+impl Error for MakeRefusal {}

@@ -1,0 +1,35 @@
+// The refusal of protect.
+ghost use Rattle.std.specs.Prelude.{◌≡◌, Some};
+ghost use Rattle.memory.specs.Refusals.{protect_number, protect_text};
+
+use std::error::Error;
+use std::fmt;
+
+// Why the mark stays.
+#[derive(Clone, Copy, Debug, PartialEq, Eq)]
+pub enum ProtectRefusal {
+    // a mark below the present one or above the size
+    WrongMark = 6,
+}
+
+impl ProtectRefusal {
+    // The number of the refusal.
+    pub fn number(self) -> u32
+        ensures { result ≡ protect_number self }
+    {
+        self as u32
+    }
+}
+
+impl fmt::Display for ProtectRefusal {
+    ghost output = { λ refusal. Some (protect_text refusal) };
+
+    fn fmt<W: fmt::Write>(&self, f: &mut fmt::Formatter<W>) -> fmt::Result {
+        f.write_str(match self {
+            ProtectRefusal::WrongMark =>
+                "refused 6: the mark is below the present one or above the size",
+        })
+    }
+}
+
+impl Error for ProtectRefusal {}
