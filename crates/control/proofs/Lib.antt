@@ -1,3 +1,4 @@
+pub mod Digits
 pub mod Round
 pub mod Accepted
 pub mod Table

@@ -5,6 +5,7 @@ use Rattle.std.proofs.lemmas.Bool.{cases_eq, eq-eqb, ne_eqb, leb-true, and_parts
 use Rattle.control.specs.declared.control.ControlWord.{ControlWord}
 use Rattle.control.specs.declared.alu_table.Function.{Function}
 use Rattle.control.specs.Alu.{complement, chosen_of, result_of}
+use Rattle.control.proofs.Digits.{digit_below}
 use Rattle.control.specs.AluTable.{Row, row, table, signals, digit, signals_of, function_in, value_of, ByTheTable}
 
 -- what the ALU makes of H and the bus under six signals
@@ -77,10 +78,6 @@ table_holds = (
   ),
 )
 
-digit_small : (flag : Bool) → digit flag ≤ 1
-digit_small true = omega arith
-digit_small false = omega arith
-
 on_digit : (flag : Bool) → on (digit flag) ≡ flag
 on_digit true = refl
 on_digit false = refl
@@ -90,7 +87,7 @@ from_some d (Some f) = f
 from_some d None = d
 
 -- six digits are told from their number
-same_digits : (a b c d e f x y z u v t : ℕ) → signals a b c d e f ≡ signals x y z u v t → a ≤ 1 → b ≤ 1 → c ≤ 1 → d ≤ 1 → e ≤ 1 → f ≤ 1 → x ≤ 1 → y ≤ 1 → z ≤ 1 → u ≤ 1 → v ≤ 1 → t ≤ 1 → (a ≡ x) × (b ≡ y) × (c ≡ z) × (d ≡ u) × (e ≡ v) × (f ≡ t)
+same_digits : (a b c d e f x y z u v t : ℕ) → signals a b c d e f ≡ signals x y z u v t → a < 2 → b < 2 → c < 2 → d < 2 → e < 2 → f < 2 → x ≤ 1 → y ≤ 1 → z ≤ 1 → u ≤ 1 → v ≤ 1 → t ≤ 1 → (a ≡ x) × (b ≡ y) × (c ≡ z) × (d ≡ u) × (e ≡ v) × (f ≡ t)
 same_digits a b c d e f x y z u v t q h0 h1 h2 h3 h4 h5 k0 k1 k2 k3 k4 k5 =
     (omega arith, omega arith, omega arith, omega arith, omega arith, omega arith)
 
@@ -114,7 +111,7 @@ module _ (w : ControlWord) (h bus : ℕ) (p : h < 2 ^ 32) (q : bus < 2 ^ 32) whe
       let n4 : inva ≤ 1 = leb-true inva 1 d4.0 in
       let n5 : inc ≤ 1 = leb-true inc 1 d4.1 in
       let s = same_digits (digit w.f0) (digit w.f1) (digit w.ena) (digit w.enb) (digit w.inva) (digit w.inc) f0 f1 ena enb inva inc e
-      (digit_small w.f0) (digit_small w.f1) (digit_small w.ena) (digit_small w.enb) (digit_small w.inva) (digit_small w.inc) n0 n1 n2 n3 n4 n5 in
+      (digit_below w.f0) (digit_below w.f1) (digit_below w.ena) (digit_below w.enb) (digit_below w.inva) (digit_below w.inc) n0 n1 n2 n3 n4 n5 in
       let e0 : w.f0 ≡ on f0 = sym (on_digit w.f0) ∙ ap on s.0 in
       let e1 : w.f1 ≡ on f1 = sym (on_digit w.f1) ∙ ap on s.1 in
       let e2 : w.ena ≡ on ena = sym (on_digit w.ena) ∙ ap on s.2 in
@@ -125,7 +122,7 @@ module _ (w : ControlWord) (h bus : ℕ) (p : h < 2 ^ 32) (q : bus < 2 ^ 32) whe
       performed w h bus ∙ same ∙ does h bus p q
 
   in_rows : (rows : List Row) → AllHold rows → (f : Function) → function_in rows (signals_of w) ≡ Some f → result_of w h bus ≡ value_of f h bus
-  in_rows [] holds f e = absurd (let z : ◌≡◌ {A = ℕ} 0 1 = cc in omega arith)
+  in_rows [] holds f e = cc
   in_rows (row f0 f1 ena enb inva inc g ∷ rows) (here, below) f e =
       ⊎_elim
       (λ (same : signals_of w ≡ signals f0 f1 ena enb inva inc).

@@ -1,5 +1,5 @@
 -- The refusals of control words and of the control store, by their numbers in the manual.
-use Rattle.std.specs.Prelude.{ℕ}
+use Rattle.std.specs.Prelude.{ℕ, List, ◌++◌, codes, decimal}
 use Rattle.control.specs.declared.refusal.ControlRefusal.{ControlRefusal}
 use Rattle.control.specs.declared.refusal.ControlRefusal.TheVariants.{TooWide, TwoShifts, TwoAccesses}
 use Rattle.control.specs.declared.refusal.FillRefusal.{FillRefusal}
@@ -15,3 +15,13 @@ control_number TwoAccesses = 9
 abbrev pub fill_number : FillRefusal → ℕ
 fill_number WrongCount = 10
 fill_number (WrongWord address cause) = control_number cause
+
+-- The refusals as text.
+abbrev pub control_text : ControlRefusal → List ℕ
+control_text TooWide = codes "refused 7: a number or a field is too wide"
+control_text TwoShifts = codes "refused 8: SLL8 with SRA1"
+control_text TwoAccesses = codes "refused 9: WRITE with READ"
+
+abbrev pub fill_text : FillRefusal → List ℕ
+fill_text WrongCount = codes "refused 10: the count is not 512"
+fill_text (WrongWord address cause) = control_text cause ++ (codes ", at address " ++ decimal address)

@@ -1,11 +1,11 @@
 // The functions of the published ALU table.
 ghost use Rattle.std.specs.Prelude.{◌≡◌};
-ghost use Rattle.control.specs.AluTable.{digit, table, signals_of, function_in, function_of};
+ghost use Rattle.control.specs.AluTable.{table, signals_of, function_in, function_of};
 
 use crate::ControlWord;
 
 // What the ALU performs; A is H and B the bus.
-#[derive(Clone, Copy)]
+#[derive(Clone, Copy, Debug, PartialEq, Eq)]
 pub enum Function {
     A,
     B,
@@ -25,20 +25,14 @@ pub enum Function {
     MinusOne,
 }
 
-// A flag as a digit.
-fn bit(on: bool) -> u8
-    ensures { result ≡ digit on }
-{
-    if on { 1 } else { 0 }
-}
-
 // F0, F1, ENA, ENB, INVA and INC as a number of six bits, from the high end.
 fn signals(word: &ControlWord) -> u8
     ensures { result ≡ signals_of word.now }
 {
-    let function = bit(word.f0) * 2 + bit(word.f1);
-    let inputs = bit(word.ena) * 2 + bit(word.enb);
-    (function * 4 + inputs) * 4 + (bit(word.inva) * 2 + bit(word.inc))
+    let function = u8::from(word.f0) * 2 + u8::from(word.f1);
+    let inputs = u8::from(word.ena) * 2 + u8::from(word.enb);
+    let increments = u8::from(word.inva) * 2 + u8::from(word.inc);
+    (function * 4 + inputs) * 4 + increments
 }
 
 // The function that the table gives for six signals.

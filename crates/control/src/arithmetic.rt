@@ -1,5 +1,5 @@
 // The ALU and the shifter.
-ghost use Rattle.std.specs.Prelude.{◌≡◌, if◌then◌else◌};
+ghost use Rattle.std.specs.Prelude.{◌≡◌};
 ghost use Rattle.control.specs.Alu.{left_of, chosen_of, result_of, alu_of, shift_of};
 ghost use Rattle.control.specs.AluTable.{ByTheTable};
 
@@ -15,13 +15,6 @@ fn left(word: &ControlWord, h: u32) -> u32
         (true, false) => h,
         (true, true) => !h,
     }
-}
-
-// A number where it is on, else 0.
-fn gated(on: bool, number: u32) -> u32
-    ensures { result ≡ (if on then number else 0) }
-{
-    if on { number } else { 0 }
 }
 
 // What F0 and F1 choose.
@@ -41,12 +34,8 @@ fn result(word: &ControlWord, h: u32, bus: u32) -> u32
     ensures value { result ≡ result_of word.now h bus }
     ensures table { ByTheTable word.now h bus result }
 {
-    chosen(
-        word,
-        left(word, h),
-        gated(word.enb, bus),
-        gated(word.inc, 1),
-    )
+    let right = if word.enb { bus } else { 0 };
+    chosen(word, left(word, h), right, u32::from(word.inc))
 }
 
 // The result of the ALU, N and Z, from H and the bus.
@@ -55,7 +44,7 @@ pub fn alu(word: &ControlWord, h: u32, bus: u32) -> (u32, bool, bool)
     ensures table { ByTheTable word.now h bus result.0 }
 {
     let result = result(word, h, bus);
-    (result, result >= 0x8000_0000, result == 0)
+    (result, result.cast_signed() < 0, result == 0)
 }
 
 // What the shifter makes of the result.
@@ -65,11 +54,7 @@ pub fn shift(word: &ControlWord, value: u32) -> u32
     if word.sll8 {
         value << 8
     } else if word.sra1 {
-        if value >= 0x8000_0000 {
-            value / 2 + 0x8000_0000
-        } else {
-            value / 2
-        }
+        (value.cast_signed() >> 1).cast_unsigned()
     } else {
         value
     }

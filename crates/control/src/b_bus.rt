@@ -1,11 +1,11 @@
 // The B bus.
 ghost use Rattle.std.specs.Prelude.{◌≡◌};
-ghost use Rattle.control.specs.Bus.{source_of, bus_of};
+ghost use Rattle.control.specs.Bus.{source_of, driven_by, bus_of};
 
 use crate::Registers;
 
 // What drives the bus.
-#[derive(Clone, Copy)]
+#[derive(Clone, Copy, Debug, PartialEq, Eq)]
 pub enum Source {
     Mdr,
     Pc,
@@ -16,49 +16,48 @@ pub enum Source {
     Cpp,
     Tos,
     Opc,
-    Nothing,
 }
 
 impl Source {
     // The source that a code B names; 9 and above name none.
-    pub fn of(b: u8) -> Source
+    pub fn of(b: u8) -> Option<Source>
         ensures { result ≡ source_of b }
     {
         match b {
-            0 => Source::Mdr,
-            1 => Source::Pc,
-            2 => Source::Mbr,
-            3 => Source::Mbru,
-            4 => Source::Sp,
-            5 => Source::Lv,
-            6 => Source::Cpp,
-            7 => Source::Tos,
-            8 => Source::Opc,
-            _ => Source::Nothing,
+            0 => Some(Source::Mdr),
+            1 => Some(Source::Pc),
+            2 => Some(Source::Mbr),
+            3 => Some(Source::Mbru),
+            4 => Some(Source::Sp),
+            5 => Some(Source::Lv),
+            6 => Some(Source::Cpp),
+            7 => Some(Source::Tos),
+            8 => Some(Source::Opc),
+            _ => None,
+        }
+    }
+
+    // The word that a source puts on the bus.
+    fn word(self, registers: &Registers, mbr: u8) -> u32
+        ensures { result ≡ driven_by self registers.now mbr }
+    {
+        match self {
+            Source::Mdr => registers.mdr,
+            Source::Pc => registers.pc,
+            Source::Mbr => i32::from(mbr.cast_signed()).cast_unsigned(),
+            Source::Mbru => u32::from(mbr),
+            Source::Sp => registers.sp,
+            Source::Lv => registers.lv,
+            Source::Cpp => registers.cpp,
+            Source::Tos => registers.tos,
+            Source::Opc => registers.opc,
         }
     }
 }
 
-// The word that a source puts on the bus.
-pub fn bus(source: Source, registers: &Registers, mbr: u8) -> u32
+// The word on the bus: 0 where nothing drives it.
+pub fn bus(source: Option<Source>, registers: &Registers, mbr: u8) -> u32
     ensures { result ≡ bus_of source registers.now mbr }
 {
-    match source {
-        Source::Mdr => registers.mdr,
-        Source::Pc => registers.pc,
-        Source::Mbr => {
-            if mbr >= 0x80 {
-                mbr as u32 + 0xFFFF_FF00
-            } else {
-                mbr as u32
-            }
-        }
-        Source::Mbru => mbr as u32,
-        Source::Sp => registers.sp,
-        Source::Lv => registers.lv,
-        Source::Cpp => registers.cpp,
-        Source::Tos => registers.tos,
-        Source::Opc => registers.opc,
-        Source::Nothing => 0,
-    }
+    source.map_or(0, |source| source.word(registers, mbr))
 }

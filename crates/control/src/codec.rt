@@ -1,5 +1,5 @@
 // Control words and their numbers.
-ghost use Rattle.std.specs.Prelude.{◌≡◌, ◌^◌, ◌<◌, ◌≤◌, if◌then◌else◌, Ok};
+ghost use Rattle.std.specs.Prelude.{◌≡◌, ◌^◌, ◌<◌, ◌≤◌, Ok};
 ghost use Rattle.control.specs.Control.{bit_at, fields_of, flags_of, behind, unclashed, Unclashed, decode_of, encode_of, EncodesBack, DecodesBack};
 
 use crate::{CBits, ControlRefusal, ControlWord};
@@ -32,6 +32,7 @@ fn c_bits(number: u64) -> CBits
 pub(crate) fn fields(number: u64) -> ControlWord
     requires { number < 2 ^ 36 }
     ensures value { result ≡ fields_of number }
+    ensures within { result.next < 2 ^ 9 }
     ensures back { Unclashed result → encode_of result ≡ Ok number }
 {
     ControlWord {
@@ -85,18 +86,11 @@ pub fn decode(number: u64) -> Result<ControlWord, ControlRefusal>
 fn flags(w: &ControlWord) -> [bool; 23]
     ensures { result ≡ flags_of w.now }
 {
+    let c = w.c;
     [
-        w.jmpc, w.jamn, w.jamz, w.sll8, w.sra1, w.f0, w.f1, w.ena, w.enb, w.inva, w.inc, w.c.h, w
-            .c
-            .opc, w.c.tos, w.c.cpp, w.c.lv, w.c.sp, w.c.pc, w.c.mdr, w.c.mar, w.write, w.read,
-        w.fetch,
+        w.jmpc, w.jamn, w.jamz, w.sll8, w.sra1, w.f0, w.f1, w.ena, w.enb, w.inva, w.inc, c.h,
+        c.opc, c.tos, c.cpp, c.lv, c.sp, c.pc, c.mdr, c.mar, w.write, w.read, w.fetch,
     ]
-}
-
-fn bit(on: bool) -> u64
-    ensures { result ≡ (if on then 1 else 0) }
-{
-    if on { 1 } else { 0 }
 }
 
 // NEXT with the flags behind it.
@@ -105,9 +99,9 @@ fn joined(next: u16, flags: &[bool; 23]) -> u64
     ensures value { result ≡ behind next flags.now }
     ensures within { result < 2 ^ 32 }
 {
-    let mut number = next as u64;
-    for on in flags {
-        number = number * 2 + bit(*on);
+    let mut number = u64::from(next);
+    for &flag in flags {
+        number = number * 2 + u64::from(flag);
     }
     number
 }
@@ -118,7 +112,7 @@ fn number(word: &ControlWord) -> u64
     ensures value { Unclashed word.now → encode_of word.now ≡ Ok result }
     ensures back { Unclashed word.now → decode_of result ≡ Ok word.now }
 {
-    joined(word.next, &flags(word)) * 16 + word.b as u64
+    joined(word.next, &flags(word)) * 16 + u64::from(word.b)
 }
 
 // The number of the fields; refused (7) for NEXT above 511 or B above 15, (8) for SLL8 with SRA1, (9) for WRITE with READ, in this order.

@@ -1,7 +1,7 @@
 // A control word, by its fields.
 
 // Which registers the C bus loads.
-#[derive(Clone, Copy)]
+#[derive(Clone, Copy, Debug, Default, PartialEq, Eq)]
 pub struct CBits {
     pub h: bool,
     pub opc: bool,
@@ -15,7 +15,7 @@ pub struct CBits {
 }
 
 // The fields of a control word, from the high end.
-#[derive(Clone, Copy)]
+#[derive(Clone, Copy, Debug, Default, PartialEq, Eq)]
 pub struct ControlWord {
     pub next: u16,
     pub jmpc: bool,

@@ -1,20 +1,23 @@
 // Why control words are refused, and the number of each refusal.
-ghost use Rattle.std.specs.Prelude.{◌≡◌};
-ghost use Rattle.control.specs.Refusals.{control_number, fill_number};
+ghost use Rattle.std.specs.Prelude.{◌≡◌, Some};
+ghost use Rattle.control.specs.Refusals.{control_number, control_text, fill_number, fill_text};
+
+use std::error::Error;
+use std::fmt;
 
 // Why decode or encode refuses.
-#[derive(Clone, Copy)]
+#[derive(Clone, Copy, Debug, PartialEq, Eq)]
 pub enum ControlRefusal {
     // decode: a number of 2^36 or more; encode: NEXT above 511 or B above 15
-    TooWide,
+    TooWide = 7,
     // SLL8 with SRA1
-    TwoShifts,
+    TwoShifts = 8,
     // WRITE with READ
-    TwoAccesses,
+    TwoAccesses = 9,
 }
 
 // Why a control store is not filled.
-#[derive(Clone, Copy)]
+#[derive(Clone, Copy, Debug, PartialEq, Eq)]
 pub enum FillRefusal {
     // another count than 512
     WrongCount,
@@ -23,18 +26,16 @@ pub enum FillRefusal {
 }
 
 impl ControlRefusal {
+    // The number of the refusal.
     pub fn number(self) -> u32
         ensures { result ≡ control_number self }
     {
-        match self {
-            ControlRefusal::TooWide => 7,
-            ControlRefusal::TwoShifts => 8,
-            ControlRefusal::TwoAccesses => 9,
-        }
+        self as u32
     }
 }
 
 impl FillRefusal {
+    // The number of the refusal.
     pub fn number(self) -> u32
         ensures { result ≡ fill_number self }
     {
@@ -44,3 +45,30 @@ impl FillRefusal {
         }
     }
 }
+
+impl fmt::Display for ControlRefusal {
+    ghost output = { λ refusal. Some (control_text refusal) };
+
+    fn fmt<W: fmt::Write>(&self, f: &mut fmt::Formatter<W>) -> fmt::Result {
+        f.write_str(match self {
+            ControlRefusal::TooWide => "refused 7: a number or a field is too wide",
+            ControlRefusal::TwoShifts => "refused 8: SLL8 with SRA1",
+            ControlRefusal::TwoAccesses => "refused 9: WRITE with READ",
+        })
+    }
+}
+
+impl fmt::Display for FillRefusal {
+    ghost output = { λ refusal. Some (fill_text refusal) };
+
+    fn fmt<W: fmt::Write>(&self, f: &mut fmt::Formatter<W>) -> fmt::Result {
+        match self {
+            FillRefusal::WrongCount => f.write_str("refused 10: the count is not 512"),
+            FillRefusal::WrongWord { address, cause } => write!(f, "{cause}, at address {address}"),
+        }
+    }
+}
+
+impl Error for ControlRefusal {}
+
+impl Error for FillRefusal {}

@@ -1,5 +1,5 @@
 // The nine registers of 32 bits that the C bus can load.
-#[derive(Clone, Copy)]
+#[derive(Clone, Copy, Debug, Default, PartialEq, Eq)]
 pub struct Registers {
     pub h: u32,
     pub opc: u32,

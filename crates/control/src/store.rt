@@ -26,11 +26,11 @@ impl ControlStore {
         ensures answer { result ≡ fill_of numbers.now }
         ensures after { self.new.numbers ≡ filled_of self.old.numbers numbers.now }
     {
-        if numbers.len() != 512 {
+        let Ok(numbers) = <[u64; 512]>::try_from(numbers) else {
             return Err(FillRefusal::WrongCount);
-        }
-        check_numbers(numbers)?;
-        self.numbers = copied(numbers);
+        };
+        check_numbers(&numbers)?;
+        self.numbers = numbers;
         Ok(())
     }
 
@@ -38,22 +38,16 @@ impl ControlStore {
     pub fn number(&self, address: u16) -> Option<u64>
         ensures { result ≡ number_at self.now.numbers address }
     {
-        if address < 512 {
-            Some(self.numbers[address as usize])
-        } else {
-            None
-        }
+        self.numbers.get(usize::from(address)).copied()
     }
 
     // The control word at an address, and the word of the number 0 above 511.
+    #[tactic(auto, using(crate::proofs::Accepted::held))]
     pub fn word(&self, address: u16) -> ControlWord
         ensures value { result ≡ fields_of (slice_index self.now.numbers address) }
         ensures within { result.next < 2 ^ 9 }
     {
-        if address >= 512 {
-            return fields(0);
-        }
-        fields(self.numbers[address as usize])
+        fields(self.number(address).unwrap_or(0))
     }
 }
 
@@ -66,31 +60,13 @@ fn zeros() -> [u64; 512]
 }
 
 // Refuses the first number that decode refuses.
-fn check_numbers(numbers: &[u64]) -> Result<(), FillRefusal>
-    requires { length numbers.now ≡ 512 }
+fn check_numbers(numbers: &[u64; 512]) -> Result<(), FillRefusal>
     ensures answer { result ≡ first_refused 0 numbers.now }
     ensures accepted { result ≡ Ok tt → AllAccepted numbers.now }
 {
-    for i in 0..512 {
-        if let Err(cause) = decode(numbers[i]) {
-            return Err(FillRefusal::WrongWord {
-                address: i as u16,
-                cause,
-            });
-        }
+    for (i, &number) in numbers.iter().enumerate() {
+        let address = i as u16;
+        decode(number).map_err(|cause| FillRefusal::WrongWord { address, cause })?;
     }
     Ok(())
-}
-
-// The numbers as an array.
-fn copied(numbers: &[u64]) -> [u64; 512]
-    requires { length numbers.now ≡ 512 }
-    ensures value { result ≡ numbers.now }
-    ensures accepted { AllAccepted numbers.now → AllAccepted result }
-{
-    let mut array = [0; 512];
-    for i in 0..512 {
-        array[i] = numbers[i];
-    }
-    array
 }

@@ -11,7 +11,7 @@ use Rattle.datapath.specs.Cycle.{Micro, word_in, placed, nothing_arrives, fetche
 
 -- a refused write leaves the memory
 write_kept : (r : Result (Unit {0}) AccessRefusal) (m n : Meaning) (a mpc : ℕ) (e : Fault) → nothing_arrives (placed r a WritePort mpc) ≡ Err e → cond (is_ok r) n m ≡ m
-write_kept (Ok x) m n a mpc e h = absurd (let z : ◌≡◌ {A = ℕ} 0 1 = cc in omega arith)
+write_kept (Ok x) m n a mpc e h = cc
 write_kept (Err x) m n a mpc e h = refl
 
 -- and so does any refused access

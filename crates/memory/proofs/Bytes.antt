@@ -1,9 +1,11 @@
 -- A word by its four bytes.
-use Rattle.std.proofs.Common.{◌≡◌, ℕ, ◌+◌, ◌*◌, ◌/◌, ◌%◌, ◌^◌, ◌<◌, List, [], ◌∷◌, length, arith}
+use Rattle.std.proofs.Common.{◌≡◌, ℕ, ◌+◌, ◌-◌, ◌*◌, ◌/◌, ◌%◌, ◌^◌, ◌<◌, ◌≤◌, List, [], ◌∷◌, Some, length, get_or, set, slice_get, slice_range, ap, ◌∙◌, arith, rules}
 use Rattle.std.specs.Int.Digits.{number_from_digits}
+use Rattle.std.proofs.lemmas.List.{places}
 use Rattle.std.proofs.lemmas.Nat.{shr-shr, div-add-mod'}
+use borrow.Rule.Slice.PartMut.{put_mid}
 use Rattle.memory.specs.Cells.{words_of}
-use Rattle.memory.proofs.Words.{length-words_of}
+use Rattle.memory.proofs.Words.{found, words_of-put}
 
 -- a number below 2 ^ 32 is what its four digits in the base 256 write
 pub four_bytes : (w : ℕ) → w < 2 ^ 32 → number_from_digits 256 (w / 16777216 % 256 ∷ (w / 65536 % 256 ∷ (w / 256 % 256 ∷ (w % 256 ∷ [])))) ≡ w
@@ -16,8 +18,17 @@ four_bytes w h =
     let d : w / 256 * 256 + w % 256 ≡ w = div-add-mod' w 256 in
     omega arith
 
--- the four bytes of a word, written one after the other
+-- the four bytes at 4 * a are the word at a
+pub bytes_read : (cells bytes : List ℕ) (a w : ℕ) → 4 * a + 4 ≤ length cells → bytes ≡ slice_range cells (4 * a) (4 * a + 4)
+    → w ≡ get_or bytes 0 0 * 16777216 + get_or bytes 1 0 * 65536 + get_or bytes 2 0 * 256 + get_or bytes 3 0 → Some w ≡ slice_get (words_of 4 256 cells) a
+bytes_read cells bytes a w h part e =
+    let at : (k : ℕ) → k < 4 → get_or bytes k 0 ≡ get_or cells (4 * a + k) 0 = λ k l. rw part (search (rules, places)) in
+    found 4 256 cells a w (omega arith) (omega (arith, at 0 (omega arith), at 1 (omega arith), at 2 (omega arith), at 3 (omega arith)))
 
--- the bytes of a word lie in the buffer
-pub byte_within : (cells : List ℕ) (a k : ℕ) → a < length (words_of 4 256 cells) → k < 4 → 4 * a + k < length cells
-byte_within cells a k h l = omega (arith, length-words_of 4 256 cells)
+-- the four bytes of a word, written at 4 * a, replace the word at a
+pub bytes_put : (cells ds : List ℕ) (a w : ℕ) → 4 * a + 4 ≤ length cells → w < 2 ^ 32
+    → ds ≡ w / 16777216 % 256 ∷ (w / 65536 % 256 ∷ (w / 256 % 256 ∷ (w % 256 ∷ []))) → words_of 4 256 (put_mid (4 * a) (4 * a + 4 - 4 * a) cells ds) ≡ set (words_of 4 256 cells) a w
+bytes_put cells ds a w h small e =
+    ap (λ k. words_of 4 256 (put_mid (4 * a) k cells ds)) {x = 4 * a + 4 - 4 * a} {y = 4} (omega arith)
+    ∙ words_of-put 4 256 cells ds a (omega arith) (ap length e) (omega arith)
+    ∙ ap (set (words_of 4 256 cells) a) (ap (number_from_digits 256) e ∙ four_bytes w small)

@@ -25,10 +25,11 @@ copied cells i None h = sym (slice_get_past cells i h.3)
 copied cells i (Some x) h = sym (slice_get_read cells (length cells) i x.now refl h.3.0 h.1)
 
 -- where a word is one cell, the words are the cells
-pub one_cell : (b : ℕ) (cells : List ℕ) → cells ≡ words_of 1 b cells
+pub one_cell : (b : ℕ) (cells : List ℕ) → words_of 1 b cells ≡ cells
 one_cell b cells =
-    fill_by_all (word_at 1 b cells) cells (length cells / 1) 0 (omega arith)
-    (λ k h. ap (λ i. get_or cells i 0) {x = k} {y = 1 * k + 0} (omega arith) ∙ omega arith)
+    sym
+    (fill_by_all (word_at 1 b cells) cells (length cells / 1) 0 (omega arith)
+    (λ k h. ap (λ i. get_or cells i 0) {x = k} {y = 1 * k + 0} (omega arith) ∙ omega arith))
 
 -- a word that is there, and none past the end
 pub found : (n b : ℕ) (cells : List ℕ) (a w : ℕ) → a < length cells / n → w ≡ word_at n b cells a → Some w ≡ slice_get (words_of n b cells) a

@@ -39,10 +39,12 @@ impl Cell for u32 {
 
     ghost digits = { λ cells. cells };
 
+    #[tactic(auto, using(crate::proofs::Words::one_cell, crate::proofs::Words::copied))]
     fn word_at(cells: &[u32], address: u32) -> Option<u32> {
         cells.get(address as usize).copied()
     }
 
+    #[tactic(auto, using(crate::proofs::Words::one_cell, crate::proofs::Words::unset))]
     fn put_word(cells: &mut [u32], address: u32, word: u32) {
         let at = address as usize;
         if at < cells.len() {
@@ -65,12 +67,14 @@ impl Cell for u8 {
 
     ghost digits = { λ cells. cells };
 
+    #[tactic(auto, using(crate::proofs::Bytes::bytes_read, crate::proofs::Words::past))]
     fn word_at(cells: &[u8], address: u32) -> Option<u32> {
         let at = 4 * address as usize;
         let bytes = cells.get(at..at + 4)?;
         Some(u32::from_be_bytes([bytes[0], bytes[1], bytes[2], bytes[3]]))
     }
 
+    #[tactic(auto, using(crate::proofs::Bytes::bytes_put, crate::proofs::Words::unset))]
     fn put_word(cells: &mut [u8], address: u32, word: u32) {
         let at = 4 * address as usize;
         if at + 4 <= cells.len() {

@@ -18,7 +18,7 @@ all_placed = refl
 
 free_zero : (taken? : Bool) (n : ℕ) → (taken? || eqb n 0) ≡ true → taken? ≡ false → n ≡ 0
 free_zero false n h e = eqb-true n 0 h
-free_zero true n h e = absurd (let z : ◌≡◌ {A = ℕ} 0 1 = cc in omega arith)
+free_zero true n h e = cc
 
 -- the lines one by one, from a test over all of them
 abbrev all_held : List ℕ → List Line → Bool

@@ -1,4 +1,4 @@
-use Rattle.std.proofs.Common.{◌≡◌, ◌/◌, ◌%◌, ◌^◌, rules}
+use Rattle.std.proofs.Common.{◌≡◌, ◌/◌, ◌%◌, ◌^◌, arith, rules}
 use Rattle.control.specs.declared.control.ControlWord.{ControlWord}
 use Rattle.control.specs.Control.{fields_of}
 use Rattle.control.proofs.Round.{encode_word}
@@ -27,4 +27,4 @@ returns c =
       b = n % 16;
     } in
     let e : word ≡ fields_of n = search rules in
-    record { value = e; back = encode_word n word c.requires e }
+    record { value = e; within = omega arith; back = encode_word n word c.requires e }

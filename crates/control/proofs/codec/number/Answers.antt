@@ -7,7 +7,7 @@ pub returns : goal.returns
 unfolding number_of
 returns c =
     let w = c.args.word.now in
-    let e : c.joined.result * 16 + w.b ≡ number_of w = search rules in
+    let e : c.joined.result * 16 + c.from.result ≡ number_of w = search rules in
     record {
       value = λ u. subst (λ n. encode_of w ≡ Ok n) (sym e) (encode_number w c.requires.0 c.requires.1 u);
       back = λ u. subst (λ n. decode_of n ≡ Ok w) (sym e) (decode_number w c.requires.0 c.requires.1 u);
