@@ -1,5 +1,5 @@
 -- A cycle whose data access is refused.
-use Rattle.std.proofs.Common.{◌≡◌, ℕ, cond, List, is_ok, Some, None, Ok, Err, Option, Result, sym, refl, ap, ◌∙◌, arith}
+use Rattle.std.proofs.Common.{◌≡◌, ℕ, cond, List, is_ok, Some, None, Ok, Err, Option, Result, sym, refl, ap, ◌∙◌}
 use Rattle.memory.specs.Meaning.{Meaning, write_of}
 use Rattle.memory.specs.declared.access_refusal.AccessRefusal.{AccessRefusal}
 use Rattle.datapath.specs.declared.pending.DataAccess.{DataAccess}

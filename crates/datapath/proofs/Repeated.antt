@@ -33,7 +33,7 @@ module _ (store : List ℕ) (n k : ℕ) (m : Micro) (left : k < n) (r : Result (
       let e : cycle_of store m ≡ Ok next = done m (cycle_of store m) (sym answer ∙ ok) ∙ ap (λ x. Ok x) (sym after) in
       ap (later k) (unrolled ∙ ap (go_on (go_of store (n - (k + 1))) m) e) ∙ later_more k (go_of store (n - (k + 1)) next)
 
-  -- the one that is refused
+  -- the one that is refused ends it
   pub go_stops : (f : Fault) → r ≡ Err f → later k (go_of store (n - k) m) ≡ later k (record { done = 0; fault = Some f; after = next })
   go_stops f err =
       let e : cycle_of store m ≡ Err f = faulted (cycle_of store m) f (sym answer ∙ err) in

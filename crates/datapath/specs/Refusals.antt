@@ -1,8 +1,27 @@
--- The refusal of power, by its number in the manual.
-use Rattle.std.specs.Prelude.{ℕ}
+-- The refusal of power, by its number in the manual, and the refusal and the faults as text.
+use Rattle.std.specs.Prelude.{ℕ, List, ◌++◌, codes, decimal}
 use Rattle.datapath.specs.declared.refusal.PowerRefusal.{PowerRefusal}
 use Rattle.datapath.specs.declared.refusal.PowerRefusal.TheVariants.{WrongMpc}
+use Rattle.datapath.specs.declared.pending.Port.{Port}
+use Rattle.datapath.specs.declared.pending.Port.TheVariants.{Fetch, Read, Write}
+use Rattle.datapath.specs.declared.pending.Fault.{Fault}
+use Rattle.memory.specs.Refusals.{access_text}
 
 -- Power: 11 for an MPC above 511.
 abbrev pub power_number : PowerRefusal → ℕ
 power_number WrongMpc = 11
+
+-- The same as text.
+abbrev pub power_text : PowerRefusal → List ℕ
+power_text WrongMpc = codes "refused 11: MPC is above 511"
+
+-- The ports by name.
+abbrev pub port_text : Port → List ℕ
+port_text Fetch = codes "fetch"
+port_text Read = codes "read"
+port_text Write = codes "write"
+
+-- A fault as text: why, on which port, at which word address, and the MPC that began the access.
+abbrev pub fault_text : Fault → List ℕ
+fault_text f =
+    access_text f.cause ++ (codes ": " ++ (port_text f.port ++ (codes " of word " ++ (decimal f.address ++ (codes ", begun at MPC " ++ decimal f.mpc)))))

@@ -5,13 +5,6 @@ ghost use Rattle.datapath.specs.Cycle.{successor_of, loaded_of, arriving, arrive
 use crate::{DataAccess, FetchAccess, State};
 use control::{ControlWord, Registers, Source, alu, bus, shift};
 
-// A number where it is on, else 0.
-fn gated(on: bool, number: u16) -> u16
-    ensures { result ≡ (if on then number else 0) }
-{
-    if on { number } else { 0 }
-}
-
 // Whether the word jumps on N or Z.
 fn jumps(word: &ControlWord, n: bool, z: bool) -> bool
     ensures { result ≡ ((word.now.jamn && n) || (word.now.jamz && z)) }
@@ -24,7 +17,9 @@ fn successor(word: &ControlWord, mbr: u8, n: bool, z: bool) -> u16
     ensures value { result ≡ successor_of word.now mbr n z }
     ensures within { word.now.next < 2 ^ 9 → result < 2 ^ 9 }
 {
-    word.next | gated(word.jmpc, mbr as u16) | gated(jumps(word, n, z), 0x100)
+    let byte = if word.jmpc { u16::from(mbr) } else { 0 };
+    let bit_8 = if jumps(word, n, z) { 0x100 } else { 0 };
+    word.next | byte | bit_8
 }
 
 // What the C bus brings where it is loaded, else what is held.

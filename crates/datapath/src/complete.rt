@@ -14,28 +14,19 @@ fn place<T>(
 ) -> Result<T, Fault>
     ensures { result ≡ placed answer address port mpc }
 {
-    match answer {
-        Ok(answer) => Ok(answer),
-        Err(cause) => Err(Fault {
-            cause,
-            address,
-            port,
-            mpc,
-        }),
-    }
+    answer.map_err(|cause| Fault {
+        cause,
+        address,
+        port,
+        mpc,
+    })
 }
 
 // The byte at a byte address, of its word.
 fn byte_of(word: u32, address: u32) -> u8
     ensures { result ≡ byte_in word address }
 {
-    let shifted = match address % 4 {
-        0 => word >> 24,
-        1 => word >> 16,
-        2 => word >> 8,
-        _ => word,
-    };
-    (shifted % 256) as u8
+    word.to_be_bytes()[(address % 4) as usize]
 }
 
 // The byte of the fetch under way, if there is one.

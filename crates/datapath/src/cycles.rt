@@ -1,5 +1,5 @@
 // The datapath's calls.
-ghost use Rattle.std.specs.Prelude.{◌≡◌, ◌^◌, ◌<◌};
+ghost use Rattle.std.specs.Prelude.{◌≡◌};
 ghost use Rattle.control.specs.Numbers.{numbers_in};
 ghost use Rattle.datapath.specs.Cycle.{cycle_of, answer_of, after_of};
 ghost use Rattle.datapath.specs.Go.{go_of, power_refusal_of, power_of};
@@ -27,7 +27,6 @@ impl<M: Memory> Datapath<M> {
     pub fn power(memory: M, registers: Registers, mbr: u8, mpc: u16) -> Datapath<M>
         ensures memory { result.memory ≡ memory }
         ensures state { result.state ≡ power_of registers mbr mpc }
-        ensures within { result.state.mpc < 2 ^ 9 }
     {
         let mpc = if power_refusal(mpc).is_some() { 0 } else { mpc };
         Datapath {
@@ -48,7 +47,6 @@ impl<M: Memory> Datapath<M> {
         ensures answer { result ≡ answer_of (cycle_of (numbers_in store.now) (micro_of M.Memory.meaning self.old)) }
         ensures after { micro_of M.Memory.meaning self.new ≡ after_of (micro_of M.Memory.meaning self.old) (cycle_of (numbers_in store.now) (micro_of M.Memory.meaning self.old)) }
         ensures loan { M.Memory.loan self.new.memory ≡ M.Memory.loan self.old.memory }
-        ensures within { self.old.state.mpc < 2 ^ 9 → self.new.state.mpc < 2 ^ 9 }
     {
         let word = store.word(self.state.mpc);
         let byte = fetched(&self.memory, self.state.fetch)?;
@@ -58,23 +56,12 @@ impl<M: Memory> Datapath<M> {
     }
 
     // Up to n cycles; how many were done, and the fault of the one that stopped them.
+    #[tactic(auto, using(crate::proofs::Repeated::go_start, crate::proofs::Repeated::go_more))]
     pub fn go(&mut self, store: &ControlStore, n: u64) -> (u64, Option<Fault>)
         ensures done { result.0 ≡ (go_of (numbers_in store.now) n (micro_of M.Memory.meaning self.old)).done }
         ensures fault { result.1 ≡ (go_of (numbers_in store.now) n (micro_of M.Memory.meaning self.old)).fault }
         ensures after { micro_of M.Memory.meaning self.new ≡ (go_of (numbers_in store.now) n (micro_of M.Memory.meaning self.old)).after }
         ensures loan { M.Memory.loan self.new.memory ≡ M.Memory.loan self.old.memory }
-        ensures within { self.old.state.mpc < 2 ^ 9 → self.new.state.mpc < 2 ^ 9 }
-    {
-        self.repeat(store, n)
-    }
-
-    // The same: the loop.
-    fn repeat(&mut self, store: &ControlStore, n: u64) -> (u64, Option<Fault>)
-        ensures done { result.0 ≡ (go_of (numbers_in store.now) n (micro_of M.Memory.meaning self.old)).done }
-        ensures fault { result.1 ≡ (go_of (numbers_in store.now) n (micro_of M.Memory.meaning self.old)).fault }
-        ensures after { micro_of M.Memory.meaning self.new ≡ (go_of (numbers_in store.now) n (micro_of M.Memory.meaning self.old)).after }
-        ensures loan { M.Memory.loan self.new.memory ≡ M.Memory.loan self.old.memory }
-        ensures within { self.old.state.mpc < 2 ^ 9 → self.new.state.mpc < 2 ^ 9 }
     {
         for done in 0..n {
             if let Err(fault) = self.cycle(store) {

@@ -1,8 +1,12 @@
 // A datapath over a memory that it holds by value.
+ghost use Rattle.std.specs.Prelude.{◌^◌, ◌<◌};
+
 use crate::State;
 
 #[derive(Drop)]
 pub struct Datapath<M> {
     pub(crate) memory: M,
     pub(crate) state: State,
+    // MPC is an address of the control store
+    pub ghost within: { state.mpc < 2 ^ 9 },
 }

@@ -2,7 +2,7 @@
 use crate::{DataAccess, FetchAccess};
 use control::Registers;
 
-#[derive(Clone, Copy)]
+#[derive(Clone, Copy, Debug, PartialEq, Eq)]
 pub struct State {
     pub registers: Registers,
     pub mbr: u8,

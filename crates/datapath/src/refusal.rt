@@ -1,19 +1,33 @@
 // Why a machine does not start where it is told to, and the number of the refusal.
-ghost use Rattle.std.specs.Prelude.{◌≡◌};
-ghost use Rattle.datapath.specs.Refusals.{power_number};
+ghost use Rattle.std.specs.Prelude.{◌≡◌, Some};
+ghost use Rattle.datapath.specs.Refusals.{power_number, power_text};
 
-#[derive(Clone, Copy)]
+use std::error::Error;
+use std::fmt;
+
+#[derive(Clone, Copy, Debug, PartialEq, Eq)]
 pub enum PowerRefusal {
     // MPC above 511
-    WrongMpc,
+    WrongMpc = 11,
 }
 
 impl PowerRefusal {
+    // The number of the refusal.
     pub fn number(self) -> u32
         ensures { result ≡ power_number self }
     {
-        match self {
-            PowerRefusal::WrongMpc => 11,
-        }
+        self as u32
     }
 }
+
+impl fmt::Display for PowerRefusal {
+    ghost output = { λ refusal. Some (power_text refusal) };
+
+    fn fmt<W: fmt::Write>(&self, f: &mut fmt::Formatter<W>) -> fmt::Result {
+        f.write_str(match self {
+            PowerRefusal::WrongMpc => "refused 11: MPC is above 511",
+        })
+    }
+}
+
+impl Error for PowerRefusal {}

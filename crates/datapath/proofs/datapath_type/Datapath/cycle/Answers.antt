@@ -19,5 +19,4 @@ returns-in_err-read g c =
       answer = refused_answer numbers m n s byte e p q c.from_residual-in_err-read.result (r.1 ∙ ap (λ x. Err x) r.2);
       after = refused_after numbers m n s byte e p q c.accessed.ensures.after;
       loan = c.accessed.ensures.loan;
-      within = λ h. h;
     }

@@ -1,7 +1,7 @@
-use Rattle.std.proofs.Common.{◌≡◌, ◌-◌, ◌^◌, ◌<◌}
+use Rattle.std.proofs.Common.{◌≡◌, ◌-◌}
 use Rattle.datapath.specs.Go.{go_of, later}
 use Rattle.datapath.specs.Whole.{micro_of}
-use Rattle.datapath.proofs.datapath_type.Datapath.repeat.Given as goal
+use Rattle.datapath.proofs.datapath_type.Datapath.go.Given as goal
 
 -- what is left to be done, so many cycles later, gives the whole
 abbrev pub invariant-loop-done : goal.invariant-loop-done
@@ -9,4 +9,3 @@ invariant-loop-done g l =
     (go_of l.store.numbers l.n (micro_of g.M.Memory.meaning l.initial.self)
     ≡ later l.done (go_of l.store.numbers (l.n - l.done) (micro_of g.M.Memory.meaning l.self)))
     × (g.M.Memory.loan l.self.memory ≡ g.M.Memory.loan l.initial.self.memory)
-    × (l.initial.self.state.mpc < 2 ^ 9 → l.self.state.mpc < 2 ^ 9)
