@@ -5,5 +5,5 @@ mod digits;
 mod operations;
 mod values;
 
-pub use digits::word_text;
-pub use operations::operations_text;
+pub use digits::{Bits, word_text};
+pub use operations::{Operations, operations_text};

@@ -1,26 +1,33 @@
 // The operations of a control word, as text.
-ghost use Rattle.std.specs.Prelude.{◌≡◌, ◌||◌, IfOk, string_bytes};
+ghost use Rattle.std.specs.Prelude.{◌≡◌, Some, IfOk, string_bytes};
 ghost use Rattle.notation.specs.Text.{registers_text_of, flags_text_of, loads, jumps, assignment_text_of, memory_text_of, place_text_of, test_text_of, successor_text_of, operations_text_of};
 
-use crate::digits::address_text;
-use crate::values::{text_when, value_text};
+use crate::digits::Address;
+use crate::values::{Value, When};
 use control::{CBits, ControlWord};
 use std::alloc::{AllocError, Global};
+use std::fmt;
 
 // The registers that the C bus loads.
-fn registers_text(heap: Global, c: &CBits) -> Result<String, AllocError>
-    ensures { IfOk result (λ s. string_bytes s ≡ registers_text_of c.now) }
-{
-    let mar = text_when(c.mar, "MAR = ");
-    let mdr = text_when(c.mdr, "MDR = ");
-    let pc = text_when(c.pc, "PC = ");
-    let sp = text_when(c.sp, "SP = ");
-    let lv = text_when(c.lv, "LV = ");
-    let cpp = text_when(c.cpp, "CPP = ");
-    let tos = text_when(c.tos, "TOS = ");
-    let opc = text_when(c.opc, "OPC = ");
-    let h = text_when(c.h, "H = ");
-    format!(in heap; "{mar}{mdr}{pc}{sp}{lv}{cpp}{tos}{opc}{h}")
+#[derive(Drop)]
+struct Registers<'a>(&'a CBits);
+
+impl fmt::Display for Registers<'_> {
+    ghost output = { λ r. Some (registers_text_of r.0.now) };
+
+    fn fmt<W: fmt::Write>(&self, f: &mut fmt::Formatter<W>) -> fmt::Result {
+        let c = self.0;
+        let mar = When(c.mar, "MAR = ");
+        let mdr = When(c.mdr, "MDR = ");
+        let pc = When(c.pc, "PC = ");
+        let sp = When(c.sp, "SP = ");
+        let lv = When(c.lv, "LV = ");
+        let cpp = When(c.cpp, "CPP = ");
+        let tos = When(c.tos, "TOS = ");
+        let opc = When(c.opc, "OPC = ");
+        let h = When(c.h, "H = ");
+        write!(f, "{mar}{mdr}{pc}{sp}{lv}{cpp}{tos}{opc}{h}")
+    }
 }
 
 // Whether some register is loaded.
@@ -38,49 +45,65 @@ fn jumps_on_flag(word: &ControlWord) -> bool
 }
 
 // What is assigned, and to what.
-fn assignment_text(heap: Global, word: &ControlWord) -> Result<String, AllocError>
-    ensures { IfOk result (λ s. string_bytes s ≡ assignment_text_of word.now) }
-{
-    if loads_any(&word.c) {
-        let registers = registers_text(heap, &word.c)?;
-        let value = value_text(heap, word)?;
-        return format!(in heap; "{registers}{value}; ");
+#[derive(Drop)]
+struct Assignment<'a>(&'a ControlWord);
+
+impl fmt::Display for Assignment<'_> {
+    ghost output = { λ a. Some (assignment_text_of a.0.now) };
+
+    fn fmt<W: fmt::Write>(&self, f: &mut fmt::Formatter<W>) -> fmt::Result {
+        let word = self.0;
+        let value = Value(word);
+        if loads_any(&word.c) {
+            let registers = Registers(&word.c);
+            return write!(f, "{registers}{value}; ");
+        }
+        if jumps_on_flag(word) {
+            let n = When(word.jamn, "N = ");
+            let z = When(word.jamz, "Z = ");
+            return write!(f, "{n}{z}{value}; ");
+        }
+        Ok(())
     }
-    if jumps_on_flag(word) {
-        let n = text_when(word.jamn, "N = ");
-        let z = text_when(word.jamz, "Z = ");
-        let value = value_text(heap, word)?;
-        return format!(in heap; "{n}{z}{value}; ");
-    }
-    Ok(String::new(heap))
 }
 
 // The memory operations.
-fn memory_text(heap: Global, word: &ControlWord) -> Result<String, AllocError>
-    ensures { IfOk result (λ s. string_bytes s ≡ memory_text_of word.now) }
-{
-    let write = text_when(word.write, "wr; ");
-    let read = text_when(word.read, "rd; ");
-    let fetch = text_when(word.fetch, "fetch; ");
-    format!(in heap; "{write}{read}{fetch}")
+#[derive(Drop)]
+struct MemoryOperations<'a>(&'a ControlWord);
+
+impl fmt::Display for MemoryOperations<'_> {
+    ghost output = { λ m. Some (memory_text_of m.0.now) };
+
+    fn fmt<W: fmt::Write>(&self, f: &mut fmt::Formatter<W>) -> fmt::Result {
+        let write = When(self.0.write, "wr; ");
+        let read = When(self.0.read, "rd; ");
+        let fetch = When(self.0.fetch, "fetch; ");
+        write!(f, "{write}{read}{fetch}")
+    }
 }
 
 // Where a word goes.
-fn place_text(heap: Global, jmpc: bool, next: u16) -> Result<String, AllocError>
-    ensures { IfOk result (λ s. string_bytes s ≡ place_text_of jmpc next) }
-{
-    if !jmpc {
-        return address_text(heap, next);
+#[derive(Drop)]
+struct Place {
+    jmpc: bool,
+    next: u16,
+}
+
+impl fmt::Display for Place {
+    ghost output = { λ p. Some (place_text_of p.jmpc p.next) };
+
+    fn fmt<W: fmt::Write>(&self, f: &mut fmt::Formatter<W>) -> fmt::Result {
+        let address = Address(self.next);
+        match (self.jmpc, self.next) {
+            (false, _) => write!(f, "{address}"),
+            (true, 0) => write!(f, "(MBR)"),
+            (true, _) => write!(f, "(MBR OR {address})"),
+        }
     }
-    if next == 0 {
-        return format!(in heap; "(MBR)");
-    }
-    let address = address_text(heap, next)?;
-    format!(in heap; "(MBR OR {address})")
 }
 
 // The flag that decides.
-fn test_text(jamn: bool, jamz: bool) -> &'static str
+fn test_name(jamn: bool, jamz: bool) -> &'static str
     ensures { result.now ≡ test_text_of jamn jamz }
 {
     match (jamn, jamz) {
@@ -91,24 +114,44 @@ fn test_text(jamn: bool, jamz: bool) -> &'static str
 }
 
 // The successor.
-fn successor_text(heap: Global, word: &ControlWord) -> Result<String, AllocError>
-    ensures { IfOk result (λ s. string_bytes s ≡ successor_text_of word.now) }
-{
-    let place = place_text(heap, word.jmpc, word.next)?;
-    if jumps_on_flag(word) {
-        let test = test_text(word.jamn, word.jamz);
-        let jump = place_text(heap, word.jmpc, word.next | 0x100)?;
-        return format!(in heap; "if ({test}) goto {jump}; else goto {place}");
+#[derive(Drop)]
+struct Successor<'a>(&'a ControlWord);
+
+impl fmt::Display for Successor<'_> {
+    ghost output = { λ s. Some (successor_text_of s.0.now) };
+
+    fn fmt<W: fmt::Write>(&self, f: &mut fmt::Formatter<W>) -> fmt::Result {
+        let word = self.0;
+        let jmpc = word.jmpc;
+        let place = Place { jmpc, next: word.next };
+        if !jumps_on_flag(word) {
+            return write!(f, "goto {place}");
+        }
+        let test = test_name(word.jamn, word.jamz);
+        let jump = Place { jmpc, next: word.next | 0x100 };
+        write!(f, "if ({test}) goto {jump}; else goto {place}")
     }
-    format!(in heap; "goto {place}")
+}
+
+// The operations of a control word.
+#[derive(Clone, Copy)]
+pub struct Operations<'a>(pub &'a ControlWord);
+
+impl fmt::Display for Operations<'_> {
+    ghost output = { λ o. Some (operations_text_of o.0.now) };
+
+    fn fmt<W: fmt::Write>(&self, f: &mut fmt::Formatter<W>) -> fmt::Result {
+        let word = self.0;
+        let assignment = Assignment(word);
+        let memory = MemoryOperations(word);
+        let successor = Successor(word);
+        write!(f, "{assignment}{memory}{successor}")
+    }
 }
 
 // The operations of a control word, in the notation of the textbook's slides.
 pub fn operations_text(heap: Global, word: &ControlWord) -> Result<String, AllocError>
     ensures { IfOk result (λ s. string_bytes s ≡ operations_text_of word.now) }
 {
-    let assignment = assignment_text(heap, word)?;
-    let memory = memory_text(heap, word)?;
-    let successor = successor_text(heap, word)?;
-    format!(in heap; "{assignment}{memory}{successor}")
+    Operations(word).to_string(heap)
 }

@@ -1,20 +1,26 @@
 // The value on the C bus, as text.
-ghost use Rattle.std.specs.Prelude.{◌≡◌, cond, IfOk, string_bytes, codes};
+ghost use Rattle.std.specs.Prelude.{◌≡◌, Some};
 ghost use Rattle.notation.specs.Text.{when, source_text_of, function_text_of, left_text_of, right_text_of, chosen_text_of, result_text_of, value_text_of};
 ghost use Rattle.control.specs.AluTable.{function_of};
+ghost use Rattle.control.specs.Bus.{source_of};
 
 use control::{ControlWord, Function, Source};
-use std::alloc::{AllocError, Global};
+use std::fmt;
 
 // A text where a flag is on, else nothing.
-pub(crate) fn text_when(on: bool, text: &'static str) -> &'static str
-    ensures { result.now ≡ when on text.now }
-{
-    if on { text } else { "" }
+#[derive(Drop)]
+pub(crate) struct When(pub(crate) bool, pub(crate) &'static str);
+
+impl fmt::Display for When {
+    ghost output = { λ w. Some (when w.0 w.1.now) };
+
+    fn fmt<W: fmt::Write>(&self, f: &mut fmt::Formatter<W>) -> fmt::Result {
+        f.write_str(if self.0 { self.1 } else { "" })
+    }
 }
 
 // The name of what drives the bus.
-fn source_text(source: Source) -> &'static str
+fn source_name(source: Source) -> &'static str
     ensures { result.now ≡ source_text_of source }
 {
     match source {
@@ -31,36 +37,41 @@ fn source_text(source: Source) -> &'static str
     }
 }
 
-// A function of the ALU's table.
-fn function_text(
-    heap: Global,
+// A function of the ALU's table, with the bus's source by name.
+#[derive(Drop)]
+struct Permitted {
     function: Function,
     source: &'static str,
-) -> Result<String, AllocError>
-    ensures { IfOk result (λ s. string_bytes s ≡ function_text_of function source.now) }
-{
-    match function {
-        Function::A => format!(in heap; "H"),
-        Function::B => format!(in heap; "{source}"),
-        Function::NotA => format!(in heap; "NOT H"),
-        Function::NotB => format!(in heap; "NOT {source}"),
-        Function::APlusB => format!(in heap; "H + {source}"),
-        Function::APlusBPlus1 => format!(in heap; "H + {source} + 1"),
-        Function::APlus1 => format!(in heap; "H + 1"),
-        Function::BPlus1 => format!(in heap; "{source} + 1"),
-        Function::BMinusA => format!(in heap; "{source} - H"),
-        Function::BMinus1 => format!(in heap; "{source} - 1"),
-        Function::MinusA => format!(in heap; "-H"),
-        Function::AAndB => format!(in heap; "H AND {source}"),
-        Function::AOrB => format!(in heap; "H OR {source}"),
-        Function::Zero => format!(in heap; "0"),
-        Function::One => format!(in heap; "1"),
-        Function::MinusOne => format!(in heap; "-1"),
+}
+
+impl fmt::Display for Permitted {
+    ghost output = { λ p. Some (function_text_of p.function p.source.now) };
+
+    fn fmt<W: fmt::Write>(&self, f: &mut fmt::Formatter<W>) -> fmt::Result {
+        let source = self.source;
+        match self.function {
+            Function::A => write!(f, "H"),
+            Function::B => write!(f, "{source}"),
+            Function::NotA => write!(f, "NOT H"),
+            Function::NotB => write!(f, "NOT {source}"),
+            Function::APlusB => write!(f, "H + {source}"),
+            Function::APlusBPlus1 => write!(f, "H + {source} + 1"),
+            Function::APlus1 => write!(f, "H + 1"),
+            Function::BPlus1 => write!(f, "{source} + 1"),
+            Function::BMinusA => write!(f, "{source} - H"),
+            Function::BMinus1 => write!(f, "{source} - 1"),
+            Function::MinusA => write!(f, "-H"),
+            Function::AAndB => write!(f, "H AND {source}"),
+            Function::AOrB => write!(f, "H OR {source}"),
+            Function::Zero => write!(f, "0"),
+            Function::One => write!(f, "1"),
+            Function::MinusOne => write!(f, "-1"),
+        }
     }
 }
 
 // The left input of the ALU.
-fn left_text(word: &ControlWord) -> &'static str
+fn left_name(word: &ControlWord) -> &'static str
     ensures { result.now ≡ left_text_of word.now }
 {
     match (word.ena, word.inva) {
@@ -72,46 +83,72 @@ fn left_text(word: &ControlWord) -> &'static str
 }
 
 // The right input of the ALU.
-fn right_text(word: &ControlWord, source: &'static str) -> &'static str
+fn right_name(word: &ControlWord, source: &'static str) -> &'static str
     ensures { result.now ≡ right_text_of word.now source.now }
 {
     if word.enb { source } else { "0" }
 }
 
 // What F0 and F1 make of the inputs.
-fn chosen_text(
-    heap: Global,
-    word: &ControlWord,
-    a: &'static str,
-    b: &'static str,
-) -> Result<String, AllocError>
-    ensures { IfOk result (λ s. string_bytes s ≡ chosen_text_of word.now.f0 word.now.f1 word.now.inc a.now b.now) }
-{
-    match (word.f0, word.f1, word.inc) {
-        (false, false, _) => format!(in heap; "{a} AND {b}"),
-        (false, true, _) => format!(in heap; "{a} OR {b}"),
-        (true, false, _) => format!(in heap; "NOT {b}"),
-        (true, true, false) => format!(in heap; "{a} + {b}"),
-        (true, true, true) => format!(in heap; "{a} + {b} + 1"),
+#[derive(Drop)]
+struct Chosen<'a> {
+    word: &'a ControlWord,
+    left: &'static str,
+    right: &'static str,
+}
+
+impl fmt::Display for Chosen<'_> {
+    ghost output = { λ c. Some (chosen_text_of c.word.now.f0 c.word.now.f1 c.word.now.inc c.left.now c.right.now) };
+
+    fn fmt<W: fmt::Write>(&self, f: &mut fmt::Formatter<W>) -> fmt::Result {
+        let Chosen { word, left, right } = self;
+        match (word.f0, word.f1, word.inc) {
+            (false, false, _) => write!(f, "{left} AND {right}"),
+            (false, true, _) => write!(f, "{left} OR {right}"),
+            (true, false, _) => write!(f, "NOT {right}"),
+            (true, true, false) => write!(f, "{left} + {right}"),
+            (true, true, true) => write!(f, "{left} + {right} + 1"),
+        }
     }
 }
 
 // The result of the ALU.
-fn result_text(heap: Global, word: &ControlWord, source: &'static str) -> Result<String, AllocError>
-    ensures { IfOk result (λ s. string_bytes s ≡ result_text_of (function_of word.now) word.now source.now) }
-{
-    match Function::of(word) {
-        Some(function) => function_text(heap, function, source),
-        None => chosen_text(heap, word, left_text(word), right_text(word, source)),
+#[derive(Drop)]
+struct Outcome<'a> {
+    word: &'a ControlWord,
+    source: &'static str,
+}
+
+impl fmt::Display for Outcome<'_> {
+    ghost output = { λ r. Some (result_text_of (function_of r.word.now) r.word.now r.source.now) };
+
+    fn fmt<W: fmt::Write>(&self, f: &mut fmt::Formatter<W>) -> fmt::Result {
+        let word = self.word;
+        let source = self.source;
+        match Function::of(word) {
+            Some(function) => write!(f, "{}", Permitted { function, source }),
+            None => {
+                let left = left_name(word);
+                let right = right_name(word, source);
+                write!(f, "{}", Chosen { word, left, right })
+            }
+        }
     }
 }
 
 // The value on the C bus.
-pub(crate) fn value_text(heap: Global, word: &ControlWord) -> Result<String, AllocError>
-    ensures { IfOk result (λ s. string_bytes s ≡ value_text_of word.now) }
-{
-    let result = result_text(heap, word, source_text(Source::of(word.b)))?;
-    let left = text_when(word.sll8, " << 8");
-    let right = text_when(word.sra1, " >> 1");
-    format!(in heap; "{result}{left}{right}")
+#[derive(Drop)]
+pub(crate) struct Value<'a>(pub(crate) &'a ControlWord);
+
+impl fmt::Display for Value<'_> {
+    ghost output = { λ v. Some (value_text_of v.0.now) };
+
+    fn fmt<W: fmt::Write>(&self, f: &mut fmt::Formatter<W>) -> fmt::Result {
+        let word = self.0;
+        let source = source_name(Source::of(word.b));
+        let outcome = Outcome { word, source };
+        let left = When(word.sll8, " << 8");
+        let right = When(word.sra1, " >> 1");
+        write!(f, "{outcome}{left}{right}")
+    }
 }
