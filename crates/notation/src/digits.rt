@@ -9,6 +9,7 @@ use std::fmt;
 #[derive(Drop)]
 pub(crate) struct Address(pub(crate) u16);
 
+#[tactic(auto, using(crate::proofs::Hexadecimal::three_or_more))]
 impl fmt::Display for Address {
     ghost output = { λ a. Some (address_text_of a.0) };
 
@@ -22,6 +23,7 @@ impl fmt::Display for Address {
 #[derive(Clone, Copy)]
 pub struct Bits(pub u64);
 
+#[tactic(auto, using(crate::proofs::Hexadecimal::nine_lowest))]
 impl fmt::Display for Bits {
     ghost output = { λ b. Some (word_text_of b.0) };
 

@@ -123,12 +123,18 @@ impl fmt::Display for Successor<'_> {
     fn fmt<W: fmt::Write>(&self, f: &mut fmt::Formatter<W>) -> fmt::Result {
         let word = self.0;
         let jmpc = word.jmpc;
-        let place = Place { jmpc, next: word.next };
+        let place = Place {
+            jmpc,
+            next: word.next,
+        };
         if !jumps_on_flag(word) {
             return write!(f, "goto {place}");
         }
         let test = test_name(word.jamn, word.jamz);
-        let jump = Place { jmpc, next: word.next | 0x100 };
+        let jump = Place {
+            jmpc,
+            next: word.next | 0x100,
+        };
         write!(f, "if ({test}) goto {jump}; else goto {place}")
     }
 }
