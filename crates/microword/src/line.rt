@@ -1,65 +1,50 @@
 // Control words in the lines of a text.
-ghost use Rattle.std.specs.Prelude.{◌≡◌, ◌^◌, ◌≤◌, min, IfOk, string_bytes};
-ghost use Rattle.microword.specs.Line.{prefixed, unprefixed, ReadAs, TakenApart, meaning_text_of, word_report_of, line_report_of};
+ghost use Rattle.std.specs.Prelude.{◌≡◌, ◌↔◌, Some, IfOk, IsTrue, string_bytes};
+ghost use Rattle.microword.specs.Line.{unprefixed, ReadAs, TakenApart, meaning_text_of, word_report_of, line_report_of};
+ghost use Rattle.std.specs.Str.Parse.{IsNumeral};
 ghost use Rattle.control.specs.Control.{decode_of};
-ghost use Rattle.std.specs.Char.{digit_value};
 
 use control::{ControlRefusal, ControlWord, decode, encode};
-use notation::{operations_text, word_text};
+use notation::{Bits, Operations};
 use std::alloc::{AllocError, Global};
-
-// The value of a digit or a letter; 36 for any other character.
-fn digit(character: u8) -> u64
-    ensures { result ≡ digit_value character }
-{
-    match character {
-        b'0'..=b'9' => (character - b'0') as u64,
-        b'A'..=b'Z' => (character - b'A') as u64 + 10,
-        b'a'..=b'z' => (character - b'a') as u64 + 10,
-        _ => 36,
-    }
-}
-
-// Whether the text begins with 0x.
-fn has_prefix(text: &[u8]) -> bool
-    ensures { result ≡ prefixed text.now }
-{
-    text.len() >= 2 && text[0] == b'0' && (text[1] == b'x' || text[1] == b'X')
-}
+use std::{fmt, str};
 
 // The text without the prefix 0x.
-fn without_prefix(text: &[u8]) -> &[u8]
+#[tactic(auto, using(crate::proofs::Numerals::stripped))]
+fn without_prefix(text: &str) -> &str
     ensures { result.now ≡ unprefixed text.now }
 {
-    if !has_prefix(text) {
-        return text;
-    }
-    let (_, digits) = text.split_at(2);
-    digits
+    text.strip_prefix("0x")
+        .or(text.strip_prefix("0X"))
+        .unwrap_or(text)
+}
+
+// Whether a text is a hexadecimal numeral.
+fn is_numeral(text: &str) -> bool
+    ensures { IsTrue result ↔ IsNumeral 16 text.now }
+{
+    !text.is_empty() && text.bytes().all(|b| b.is_ascii_hexdigit())
 }
 
 // The number of a hexadecimal numeral, if the digits are one.
-fn read_digits(digits: &[u8]) -> Option<u64>
+#[tactic(auto, using(crate::proofs::Numerals::capped))]
+fn read_digits(digits: &str) -> Option<u64>
     ensures { ReadAs digits.now result }
 {
-    if digits.is_empty() {
+    if !is_numeral(digits) {
         return None;
     }
-    let mut number: u64 = 0;
-    for character in digits {
-        let value = digit(*character);
-        if value >= 16 {
-            return None;
-        }
-        number = (number * 16 + value).min(0x10_0000_0000);
-    }
-    Some(number)
+    // A numeral is refused only where its number is too wide for a u64.
+    let number = u64::from_str_radix(digits, 16).unwrap_or(u64::MAX);
+    Some(number.min(0x10_0000_0000))
 }
 
 // The number of a text, with the prefix 0x or without; none where it is no hexadecimal number.
+#[tactic(auto, using(crate::proofs::Numerals::numeral_is_text))]
 pub fn number_in(text: &[u8]) -> Option<u64>
     ensures { ReadAs (unprefixed text.now) result }
 {
+    let text = str::from_utf8(text).ok()?;
     read_digits(without_prefix(text))
 }
 
@@ -73,40 +58,54 @@ fn take_apart(number: u64) -> Result<(ControlWord, u64), ControlRefusal>
 }
 
 // What a refusal means.
-fn meaning(refusal: ControlRefusal) -> &'static str
-    ensures { result.now ≡ meaning_text_of refusal }
-{
-    match refusal {
-        ControlRefusal::TooWide => "the number is 2^36 or more",
-        ControlRefusal::TwoShifts => "SLL8 with SRA1",
-        ControlRefusal::TwoAccesses => "WRITE with READ",
+#[derive(Drop)]
+struct Meaning(ControlRefusal);
+
+impl fmt::Display for Meaning {
+    ghost output = { λ m. Some (meaning_text_of m.0) };
+
+    fn fmt<W: fmt::Write>(&self, f: &mut fmt::Formatter<W>) -> fmt::Result {
+        match self.0 {
+            ControlRefusal::TooWide => write!(f, "the number is 2^36 or more"),
+            ControlRefusal::TwoShifts => write!(f, "SLL8 with SRA1"),
+            ControlRefusal::TwoAccesses => write!(f, "WRITE with READ"),
+        }
     }
 }
 
 // What is said of a number.
-fn word_report(heap: Global, number: u64) -> Result<String, AllocError>
-    ensures { IfOk result (λ s. string_bytes s ≡ word_report_of number (decode_of number)) }
-{
-    match take_apart(number) {
-        Ok((word, back)) => {
-            let operations = operations_text(heap, &word)?;
-            let bits = word_text(heap, back)?;
-            format!(in heap; "{operations} [{bits}]")
-        }
-        Err(refusal) => {
-            let number = refusal.number();
-            let why = meaning(refusal);
-            format!(in heap; "refused {number}: {why}")
+#[derive(Drop)]
+struct WordReport(u64);
+
+impl fmt::Display for WordReport {
+    ghost output = { λ r. Some (word_report_of r.0 (decode_of r.0)) };
+
+    fn fmt<W: fmt::Write>(&self, f: &mut fmt::Formatter<W>) -> fmt::Result {
+        match take_apart(self.0) {
+            Ok((word, back)) => write!(f, "{} [{}]", Operations(&word), Bits(back)),
+            Err(refusal) => write!(f, "refused {}: {}", refusal.number(), Meaning(refusal)),
         }
     }
 }
 
 // What is said of a line that holds a number, or none.
+#[derive(Drop)]
+struct LineReport(Option<u64>);
+
+impl fmt::Display for LineReport {
+    ghost output = { λ r. Some (line_report_of r.0) };
+
+    fn fmt<W: fmt::Write>(&self, f: &mut fmt::Formatter<W>) -> fmt::Result {
+        match self.0 {
+            Some(number) => write!(f, "{}", WordReport(number)),
+            None => write!(f, "not a hexadecimal number"),
+        }
+    }
+}
+
+// The report of a line, as text.
 pub fn line_report(heap: Global, number: Option<u64>) -> Result<String, AllocError>
     ensures { IfOk result (λ s. string_bytes s ≡ line_report_of number) }
 {
-    match number {
-        Some(number) => word_report(heap, number),
-        None => String::from_str(heap, "not a hexadecimal number"),
-    }
+    LineReport(number).to_string(heap)
 }
