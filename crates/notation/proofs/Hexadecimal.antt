@@ -1,5 +1,5 @@
 -- What std writes of a number in hexadecimal: the digits of the notation.
-use Rattle.std.proofs.Common.{◌≡◌, ℕ, zero, suc, ◌+◌, ◌-◌, ◌*◌, ◌/◌, ◌%◌, ◌^◌, ◌<◌, ◌≤◌, true, false, cond, leb, le-leb, eq-eqb, ne_eqb, List, [], ◌∷◌, ◌++◌, length, replicate, bytes_eq, refl, sym, ap, ◌∙◌, ⊎_elim, append_assoc, append-nil, pow-suc, pow-add, mul_assoc, div-add-mod', arith}
+use Rattle.std.proofs.Common.{◌≡◌, ℕ, zero, suc, ◌+◌, ◌-◌, ◌*◌, ◌/◌, ◌%◌, ◌^◌, ◌<◌, ◌≤◌, Bool, true, false, cond, eqb, leb, le-leb, eq-eqb, ne_eqb, List, [], ◌∷◌, ◌++◌, length, replicate, bytes_eq, refl, sym, ap, ◌∙◌, ⊎_elim, append_assoc, append-nil, pow-suc, pow-add, mul_assoc, div-add-mod', arith}
 use Rattle.std.proofs.Math.Nat.{div-div-eq-div-mul, div-one, one-le-pow, zero-div}
 use Rattle.std.proofs.lemmas.Bool.{agree_below_at, cases_lt, lt-leb}
 use Rattle.std.proofs.lemmas.Nat.{div_below, le-div, mod_below, mod-mul-add}
@@ -43,11 +43,14 @@ digits_low n (suc k) =
 
 module _ (j n : ℕ) (more : List ℕ) where
   -- one step of std's digits: the first digit, or one before others
+  onto_step : (b : Bool) → eqb (n / 16) 0 ≡ b → digits_onto (suc j) 16 true n more ≡ cond b (digit_glyph true (n % 16) ∷ more) (digits_onto j 16 true (n / 16) (digit_glyph true (n % 16) ∷ more))
+  onto_step b e = ap (λ a. cond a (digit_glyph true (n % 16) ∷ more) (digits_onto j 16 true (n / 16) (digit_glyph true (n % 16) ∷ more))) e
+
   onto_first : n < 16 → digits_onto (suc j) 16 true n more ≡ digit_glyph true (n % 16) ∷ more
-  onto_first h = ap (λ b. cond b (digit_glyph true (n % 16) ∷ more) (digits_onto j 16 true (n / 16) (digit_glyph true (n % 16) ∷ more))) (eq-eqb (n / 16) 0 (omega arith))
+  onto_first h = onto_step true (eq-eqb (n / 16) 0 (omega arith))
 
   onto_more : 16 ≤ n → digits_onto (suc j) 16 true n more ≡ digits_onto j 16 true (n / 16) (digit_glyph true (n % 16) ∷ more)
-  onto_more h = ap (λ b. cond b (digit_glyph true (n % 16) ∷ more) (digits_onto j 16 true (n / 16) (digit_glyph true (n % 16) ∷ more))) (ne_eqb (n / 16) 0 (λ e. omega arith))
+  onto_more h = onto_step false (ne_eqb (n / 16) 0 (λ e. omega arith))
 
   -- the last digit, before what follows
   with_last : (k : ℕ) → digits_text_of (n / 16) k ++ (digit_glyph true (n % 16) ∷ more) ≡ digits_text_of n (suc k) ++ more

@@ -1,6 +1,6 @@
 // The operations of a control word, as text.
 ghost use Rattle.std.specs.Prelude.{◌≡◌, Some, IfOk, string_bytes};
-ghost use Rattle.notation.specs.Text.{registers_text_of, flags_text_of, loads, jumps, assignment_text_of, memory_text_of, place_text_of, test_text_of, successor_text_of, operations_text_of};
+ghost use Rattle.notation.specs.Text.{registers_text_of, loads, jumps, assignment_text_of, memory_text_of, place_text_of, test_text_of, successor_text_of, operations_text_of};
 
 use crate::digits::Address;
 use crate::values::{Value, When};

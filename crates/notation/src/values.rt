@@ -2,7 +2,6 @@
 ghost use Rattle.std.specs.Prelude.{◌≡◌, Some};
 ghost use Rattle.notation.specs.Text.{when, source_text_of, function_text_of, left_text_of, right_text_of, chosen_text_of, result_text_of, value_text_of};
 ghost use Rattle.control.specs.AluTable.{function_of};
-ghost use Rattle.control.specs.Bus.{source_of};
 
 use control::{ControlWord, Function, Source};
 use std::fmt;
@@ -39,12 +38,12 @@ fn source_name(source: Source) -> &'static str
 
 // A function of the ALU's table, with the bus's source by name.
 #[derive(Drop)]
-struct Permitted {
+struct PermittedFunction {
     function: Function,
     source: &'static str,
 }
 
-impl fmt::Display for Permitted {
+impl fmt::Display for PermittedFunction {
     ghost output = { λ p. Some (function_text_of p.function p.source.now) };
 
     fn fmt<W: fmt::Write>(&self, f: &mut fmt::Formatter<W>) -> fmt::Result {
@@ -91,17 +90,17 @@ fn right_name(word: &ControlWord, source: &'static str) -> &'static str
 
 // What F0 and F1 make of the inputs.
 #[derive(Drop)]
-struct Chosen<'a> {
+struct ChosenOperation<'a> {
     word: &'a ControlWord,
     left: &'static str,
     right: &'static str,
 }
 
-impl fmt::Display for Chosen<'_> {
+impl fmt::Display for ChosenOperation<'_> {
     ghost output = { λ c. Some (chosen_text_of c.word.now.f0 c.word.now.f1 c.word.now.inc c.left.now c.right.now) };
 
     fn fmt<W: fmt::Write>(&self, f: &mut fmt::Formatter<W>) -> fmt::Result {
-        let Chosen { word, left, right } = self;
+        let ChosenOperation { word, left, right } = self;
         match (word.f0, word.f1, word.inc) {
             (false, false, _) => write!(f, "{left} AND {right}"),
             (false, true, _) => write!(f, "{left} OR {right}"),
@@ -114,23 +113,23 @@ impl fmt::Display for Chosen<'_> {
 
 // The result of the ALU.
 #[derive(Drop)]
-struct Outcome<'a> {
+struct AluResult<'a> {
     word: &'a ControlWord,
     source: &'static str,
 }
 
-impl fmt::Display for Outcome<'_> {
+impl fmt::Display for AluResult<'_> {
     ghost output = { λ r. Some (result_text_of (function_of r.word.now) r.word.now r.source.now) };
 
     fn fmt<W: fmt::Write>(&self, f: &mut fmt::Formatter<W>) -> fmt::Result {
         let word = self.word;
         let source = self.source;
         match Function::of(word) {
-            Some(function) => write!(f, "{}", Permitted { function, source }),
+            Some(function) => write!(f, "{}", PermittedFunction { function, source }),
             None => {
                 let left = left_name(word);
                 let right = right_name(word, source);
-                write!(f, "{}", Chosen { word, left, right })
+                write!(f, "{}", ChosenOperation { word, left, right })
             }
         }
     }
@@ -146,9 +145,9 @@ impl fmt::Display for Value<'_> {
     fn fmt<W: fmt::Write>(&self, f: &mut fmt::Formatter<W>) -> fmt::Result {
         let word = self.0;
         let source = source_name(Source::of(word.b));
-        let outcome = Outcome { word, source };
+        let result = AluResult { word, source };
         let left = When(word.sll8, " << 8");
         let right = When(word.sra1, " >> 1");
-        write!(f, "{outcome}{left}{right}")
+        write!(f, "{result}{left}{right}")
     }
 }
