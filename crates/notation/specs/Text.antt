@@ -5,7 +5,7 @@ use Rattle.control.specs.declared.control.ControlWord.{ControlWord}
 use Rattle.control.specs.declared.alu_table.Function.{Function}
 use Rattle.control.specs.declared.alu_table.Function.TheVariants.{A, B, NotA, NotB, APlusB, APlusBPlus1, APlus1, BPlus1, BMinusA, BMinus1, MinusA, AAndB, AOrB, Zero, One, MinusOne}
 use Rattle.control.specs.declared.b_bus.Source.{Source}
-use Rattle.control.specs.declared.b_bus.Source.TheVariants.{Mdr, Pc, Mbr, Mbru, Sp, Lv, Cpp, Tos, Opc, Nothing}
+use Rattle.control.specs.declared.b_bus.Source.TheVariants.{Mdr, Pc, Mbr, Mbru, Sp, Lv, Cpp, Tos, Opc}
 use Rattle.control.specs.Bus.{source_of}
 use Rattle.control.specs.AluTable.{function_of}
 
@@ -14,17 +14,17 @@ abbrev pub when : Bool → List ℕ → List ℕ
 when on text = cond on text []
 
 -- What drives the bus, by name.
-abbrev pub source_text_of : Source → List ℕ
-source_text_of Mdr = codes "MDR"
-source_text_of Pc = codes "PC"
-source_text_of Mbr = codes "MBR"
-source_text_of Mbru = codes "MBRU"
-source_text_of Sp = codes "SP"
-source_text_of Lv = codes "LV"
-source_text_of Cpp = codes "CPP"
-source_text_of Tos = codes "TOS"
-source_text_of Opc = codes "OPC"
-source_text_of Nothing = codes "none"
+abbrev pub source_text_of : Option Source → List ℕ
+source_text_of None = codes "none"
+source_text_of (Some Mdr) = codes "MDR"
+source_text_of (Some Pc) = codes "PC"
+source_text_of (Some Mbr) = codes "MBR"
+source_text_of (Some Mbru) = codes "MBRU"
+source_text_of (Some Sp) = codes "SP"
+source_text_of (Some Lv) = codes "LV"
+source_text_of (Some Cpp) = codes "CPP"
+source_text_of (Some Tos) = codes "TOS"
+source_text_of (Some Opc) = codes "OPC"
 
 -- The permitted operations, with the bus's source by name.
 abbrev pub function_text_of : Function → List ℕ → List ℕ

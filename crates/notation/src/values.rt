@@ -19,20 +19,20 @@ impl fmt::Display for When {
 }
 
 // The name of what drives the bus.
-fn source_name(source: Source) -> &'static str
+fn source_name(source: Option<Source>) -> &'static str
     ensures { result.now ≡ source_text_of source }
 {
     match source {
-        Source::Mdr => "MDR",
-        Source::Pc => "PC",
-        Source::Mbr => "MBR",
-        Source::Mbru => "MBRU",
-        Source::Sp => "SP",
-        Source::Lv => "LV",
-        Source::Cpp => "CPP",
-        Source::Tos => "TOS",
-        Source::Opc => "OPC",
-        Source::Nothing => "none",
+        None => "none",
+        Some(Source::Mdr) => "MDR",
+        Some(Source::Pc) => "PC",
+        Some(Source::Mbr) => "MBR",
+        Some(Source::Mbru) => "MBRU",
+        Some(Source::Sp) => "SP",
+        Some(Source::Lv) => "LV",
+        Some(Source::Cpp) => "CPP",
+        Some(Source::Tos) => "TOS",
+        Some(Source::Opc) => "OPC",
     }
 }
 
