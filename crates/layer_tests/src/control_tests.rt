@@ -8,53 +8,29 @@ mod tests {
     use std::process::Abort;
     use std::test::Fail;
 
-    // the refusal's number, 0 for none
-    fn decoded(number: u64) -> u32 {
-        match decode(number) {
-            Ok(_) => 0,
-            Err(refusal) => refusal.number(),
-        }
-    }
-
-    // the number, and 0; or 0, and the refusal's number
-    fn encoded(word: &ControlWord) -> (u64, u32) {
-        match encode(word) {
-            Ok(number) => (number, 0),
-            Err(refusal) => (0, refusal.number()),
-        }
-    }
-
-    // the address and the number of a refusal; 512 where there is no address, 0 for none
-    fn filled(answer: Result<(), FillRefusal>) -> (u16, u32) {
-        match answer {
-            Ok(()) => (512, 0),
-            Err(FillRefusal::WrongCount) => (512, FillRefusal::WrongCount.number()),
-            Err(FillRefusal::WrongWord { address, cause }) => (address, cause.number()),
-        }
-    }
-
-    // the fields of a number that decode takes
-    fn fields(number: u64) -> Result<ControlWord, Fail> {
-        match decode(number) {
-            Ok(word) => Ok(word),
-            Err(_) => Err(Fail::new("refused")),
-        }
+    // the number of a refused fill, and the address where there is one
+    fn place(refusal: FillRefusal) -> (u32, Option<u16>) {
+        let address = match refusal {
+            FillRefusal::WrongCount => None,
+            FillRefusal::WrongWord { address, cause: _ } => Some(address),
+        };
+        (refusal.number(), address)
     }
 
     #[test]
     fn three_words_of_the_textbook(rt: HostRuntime) -> Result<(), Fail> {
         // 0x148007 = 0b0001_0100_1000_0000_0000_0111: F1, ENB, C bit H, B = 7
-        let w = fields(0x148007)?;
+        let w = decode(0x148007)?;
         assert_eq!(rt; (w.next, w.b), (0, 7));
         assert!(rt; !w.f0 && w.f1 && !w.ena && w.enb && !w.inva && !w.inc);
         assert!(rt; w.c.h && !w.c.sp && !w.c.pc && !w.fetch && !w.jmpc);
         // 0x3C0408 = 0b0011_1100_0000_0100_0000_1000: F0, F1, ENA, ENB, C bit SP, B = 8
-        let w = fields(0x3C0408)?;
+        let w = decode(0x3C0408)?;
         assert_eq!(rt; (w.next, w.b), (0, 8));
         assert!(rt; w.f0 && w.f1 && w.ena && w.enb && !w.inva && !w.inc);
         assert!(rt; w.c.sp && !w.c.h);
         // 0x4350211 = 0b0100_0011_0101_0000_0010_0001_0001: JMPC, F0, F1, ENB, INC, C bit PC, FETCH, B = 1
-        let w = fields(0x4350211)?;
+        let w = decode(0x4350211)?;
         assert_eq!(rt; (w.next, w.b), (0, 1));
         assert!(rt; w.jmpc && w.f0 && w.f1 && !w.ena && w.enb && !w.inva && w.inc);
         assert!(rt; w.c.pc && w.fetch && !w.read && !w.write && !w.jamn && !w.jamz);
@@ -63,101 +39,122 @@ mod tests {
 
     #[test]
     fn decode_refuses_in_order(rt: HostRuntime) {
-        assert_eq!(rt; decoded(0xF_FF9F_FFBF), 0);
-        assert_eq!(rt; decoded(0x10_0000_0000), 7);
-        assert_eq!(rt; decoded(0xFFFF_FFFF_FFFF_FFFF), 7);
-        assert_eq!(rt; decoded(0xC0_0000), 8);
-        assert_eq!(rt; decoded(0x60), 9);
-        assert_eq!(rt; decoded(0xC0_0060), 8);
-        assert_eq!(rt; decoded(0x10_00C0_0060), 7);
+        assert!(rt; decode(0xF_FF9F_FFBF).is_ok());
+        assert_eq!(rt;
+            decode(0x10_0000_0000).err().map(ControlRefusal::number),
+            Some(7)
+        );
+        assert_eq!(rt;
+            decode(0xFFFF_FFFF_FFFF_FFFF)
+                .err()
+                .map(ControlRefusal::number),
+            Some(7)
+        );
+        assert_eq!(rt;
+            decode(0xC0_0000).err().map(ControlRefusal::number),
+            Some(8)
+        );
+        assert_eq!(rt; decode(0x60).err().map(ControlRefusal::number), Some(9));
+        assert_eq!(rt;
+            decode(0xC0_0060).err().map(ControlRefusal::number),
+            Some(8)
+        );
+        assert_eq!(rt;
+            decode(0x10_00C0_0060).err().map(ControlRefusal::number),
+            Some(7)
+        );
     }
 
     #[test]
     fn encode_puts_each_field_in_its_place(rt: HostRuntime) -> Result<(), Fail> {
-        let zero = fields(0)?;
-        assert_eq!(rt; encoded(&zero), (0, 0));
+        let zero = decode(0)?;
+        assert_eq!(rt; encode(&zero), Ok(0));
         assert_eq!(rt;
-            encoded(&ControlWord { next: 511, ..zero }),
-            (0xF_F800_0000, 0)
+            encode(&ControlWord { next: 511, ..zero }),
+            Ok(0xF_F800_0000)
         );
         assert_eq!(rt;
-            encoded(&ControlWord {
+            encode(&ControlWord {
                 jmpc: true,
                 jamz: true,
                 ..zero
-            },),
-            (0x500_0000, 0)
+            }),
+            Ok(0x500_0000)
         );
         assert_eq!(rt;
-            encoded(&ControlWord {
+            encode(&ControlWord {
                 f0: true,
                 inc: true,
                 b: 15,
                 ..zero
-            },),
-            (0x21_000F, 0)
+            }),
+            Ok(0x21_000F)
         );
         let c = CBits {
             h: true,
-            opc: false,
-            tos: false,
-            cpp: false,
-            lv: false,
-            sp: false,
-            pc: false,
-            mdr: false,
             mar: true,
+            ..CBits::default()
         };
         assert_eq!(rt;
-            encoded(&ControlWord {
+            encode(&ControlWord {
                 c,
                 fetch: true,
                 ..zero
-            },),
-            (0x8090, 0)
+            }),
+            Ok(0x8090)
         );
         Ok(())
     }
 
     #[test]
     fn encode_refuses_in_order(rt: HostRuntime) -> Result<(), Fail> {
-        let zero = fields(0)?;
-        assert_eq!(rt; encoded(&ControlWord { next: 512, ..zero }), (0, 7));
-        assert_eq!(rt; encoded(&ControlWord { b: 16, ..zero }), (0, 7));
+        let zero = decode(0)?;
         assert_eq!(rt;
-            encoded(&ControlWord {
+            encode(&ControlWord { next: 512, ..zero }).map_err(ControlRefusal::number),
+            Err(7)
+        );
+        assert_eq!(rt;
+            encode(&ControlWord { b: 16, ..zero }).map_err(ControlRefusal::number),
+            Err(7)
+        );
+        assert_eq!(rt;
+            encode(&ControlWord {
                 sll8: true,
                 sra1: true,
                 ..zero
-            },),
-            (0, 8)
+            })
+            .map_err(ControlRefusal::number),
+            Err(8)
         );
         assert_eq!(rt;
-            encoded(&ControlWord {
+            encode(&ControlWord {
                 write: true,
                 read: true,
                 ..zero
-            },),
-            (0, 9)
+            })
+            .map_err(ControlRefusal::number),
+            Err(9)
         );
         assert_eq!(rt;
-            encoded(&ControlWord {
+            encode(&ControlWord {
                 sll8: true,
                 sra1: true,
                 write: true,
                 read: true,
                 ..zero
-            },),
-            (0, 8)
+            })
+            .map_err(ControlRefusal::number),
+            Err(8)
         );
         assert_eq!(rt;
-            encoded(&ControlWord {
+            encode(&ControlWord {
                 b: 16,
                 sll8: true,
                 sra1: true,
                 ..zero
-            },),
-            (0, 7)
+            })
+            .map_err(ControlRefusal::number),
+            Err(7)
         );
         Ok(())
     }
@@ -169,17 +166,20 @@ mod tests {
         assert_eq!(rt; store.number(0), Some(0));
         assert_eq!(rt; store.number(511), Some(0));
         assert_eq!(rt; store.number(512), None);
-        assert_eq!(rt; filled(store.fill(&numbers[0..511])), (512, 10));
-        assert_eq!(rt; filled(store.fill(&[])), (512, 10));
+        assert_eq!(rt;
+            store.fill(&numbers[0..511]).map_err(place),
+            Err((10, None))
+        );
+        assert_eq!(rt; store.fill(&[]).map_err(place), Err((10, None)));
         assert_eq!(rt; store.number(0), Some(0));
         numbers[7] = 0x60;
         numbers[5] = 0xC0_0000;
-        assert_eq!(rt; filled(store.fill(&numbers)), (5, 8));
+        assert_eq!(rt; store.fill(&numbers).map_err(place), Err((8, Some(5))));
         assert_eq!(rt; store.number(0), Some(0));
         numbers[5] = 0x4350211;
-        assert_eq!(rt; filled(store.fill(&numbers)), (7, 9));
+        assert_eq!(rt; store.fill(&numbers).map_err(place), Err((9, Some(7))));
         numbers[7] = 0x3C0408;
-        assert_eq!(rt; filled(store.fill(&numbers)), (512, 0));
+        assert_eq!(rt; store.fill(&numbers), Ok(()));
         assert_eq!(rt;
             (store.number(4), store.number(5)),
             (Some(0x148007), Some(0x4350211))
@@ -245,7 +245,7 @@ mod tests {
         bus: u32,
     ) -> Result<(u32, bool, bool), Fail> {
         assert!(rt; signals < 64);
-        let word = fields(signals * 0x1_0000)?;
+        let word = decode(signals * 0x1_0000)?;
         Ok(alu(&word, h, bus))
     }
 
@@ -314,12 +314,12 @@ mod tests {
     #[test]
     fn flags_are_taken_before_the_shifter(rt: HostRuntime) -> Result<(), Fail> {
         // F1 and ENB: the bus; with SLL8, then with SRA1
-        let left = fields(0x94_0000)?;
+        let left = decode(0x94_0000)?;
         let (result, n, z) = alu(&left, 0, 0x0100_0000);
         assert_eq!(rt; (result, n, z), (0x0100_0000, false, false));
         assert_eq!(rt; shift(&left, result), 0);
         assert_eq!(rt; shift(&left, 0x1234_5678), 0x3456_7800);
-        let right = fields(0x54_0000)?;
+        let right = decode(0x54_0000)?;
         assert_eq!(rt;
             (shift(&right, 0x8000_0001), shift(&right, 0x7FFF_FFFF)),
             (0xC000_0000, 0x3FFF_FFFF)
@@ -328,7 +328,7 @@ mod tests {
             (shift(&right, 1), shift(&right, 0xFFFF_FFFF)),
             (0, 0xFFFF_FFFF)
         );
-        let plain = fields(0x14_0000)?;
+        let plain = decode(0x14_0000)?;
         assert_eq!(rt; shift(&plain, 0x8000_0001), 0x8000_0001);
         Ok(())
     }

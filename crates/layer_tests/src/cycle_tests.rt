@@ -2,8 +2,8 @@
 #[cfg(test)]
 mod tests {
     use control::{ControlStore, Registers};
-    use datapath::{Datapath, Fault, Port, power_refusal};
-    use memory::{Memory, WordMemory};
+    use datapath::{Datapath, Fault, Port, PowerRefusal, power_refusal};
+    use memory::{AccessRefusal, Memory, WordMemory};
     use std::test::Fail;
 
     // a store of zeros with two words at 0 and 1
@@ -12,51 +12,21 @@ mod tests {
         numbers[0] = first;
         numbers[1] = second;
         let mut store = ControlStore::new();
-        match store.fill(&numbers) {
-            Ok(()) => Ok(store),
-            Err(_) => Err(Fail::new("refused")),
-        }
+        store.fill(&numbers)?;
+        Ok(store)
     }
 
-    fn registers() -> Registers {
-        Registers {
-            h: 0,
-            opc: 0,
-            tos: 0,
-            cpp: 0,
-            lv: 0,
-            sp: 0,
-            pc: 0,
-            mdr: 0,
-            mar: 0,
-        }
-    }
-
-    fn port_text(port: Port) -> &'static str {
-        match port {
-            Port::Fetch => "fetch",
-            Port::Read => "read",
-            Port::Write => "write",
-        }
-    }
-
-    // the cause's number, the word address and the MPC of a fault, and its port
-    fn shown(fault: Option<Fault>) -> ((u32, u32, u16), &'static str) {
-        match fault {
-            Some(fault) => (
-                (fault.cause.number(), fault.address, fault.mpc),
-                port_text(fault.port),
-            ),
-            None => ((0, 0, 0), "none"),
-        }
+    // the cause's number, the word address, the port and the MPC of a fault
+    fn shown(fault: Fault) -> (u32, u32, Port, u16) {
+        (fault.cause.number(), fault.address, fault.port, fault.mpc)
     }
 
     #[test]
     fn power_starts_at_0_where_mpc_is_refused(rt: HostRuntime) {
-        assert!(rt; power_refusal(511).is_none());
-        assert!(rt; power_refusal(512).is_some());
+        assert_eq!(rt; power_refusal(511), None);
+        assert_eq!(rt; power_refusal(512).map(PowerRefusal::number), Some(11));
         let mut words = [0u32; 16];
-        let machine = Datapath::power(WordMemory::make(&mut words), registers(), 7, 512);
+        let machine = Datapath::power(WordMemory::make(&mut words), Registers::default(), 7, 512);
         assert_eq!(rt; (machine.state().mpc, machine.state().mbr), (0, 7));
         assert_eq!(rt; machine.state().counter, 0);
     }
@@ -70,19 +40,19 @@ mod tests {
             WordMemory::make(&mut words),
             Registers {
                 pc: 63,
-                ..registers()
+                ..Registers::default()
             },
             0,
             0,
         );
         let (done, fault) = machine.go(&store, 10);
         assert_eq!(rt; done, 1);
-        assert_eq!(rt; shown(fault), ((4, 16, 0), "fetch"));
+        assert_eq!(rt; fault.map(shown), Some((4, 16, Port::Fetch, 0)));
         assert_eq!(rt; (machine.state().counter, machine.state().mpc), (1, 1));
         // a refused cycle changes nothing: it is refused again
         let (done, fault) = machine.go(&store, 10);
         assert_eq!(rt; done, 0);
-        assert_eq!(rt; shown(fault), ((4, 16, 0), "fetch"));
+        assert_eq!(rt; fault.map(shown), Some((4, 16, Port::Fetch, 0)));
         Ok(())
     }
 
@@ -96,29 +66,29 @@ mod tests {
             WordMemory::make(&mut words),
             Registers {
                 h: 16,
-                ..registers()
+                ..Registers::default()
             },
             0,
             0,
         );
         let (done, fault) = machine.go(&reads, 5);
         assert_eq!(rt; done, 1);
-        assert_eq!(rt; shown(fault), ((4, 16, 0), "read"));
+        assert_eq!(rt; fault.map(shown), Some((4, 16, Port::Read, 0)));
         let mut memory = machine.into_memory();
-        assert!(rt; memory.protect(9).is_ok());
+        assert_eq!(rt; memory.protect(9), Ok(()));
         let mut machine = Datapath::power(
             memory,
             Registers {
                 h: 8,
                 mdr: 5,
-                ..registers()
+                ..Registers::default()
             },
             0,
             0,
         );
         let (done, fault) = machine.go(&writes, 5);
         assert_eq!(rt; done, 1);
-        assert_eq!(rt; shown(fault), ((5, 8, 0), "write"));
+        assert_eq!(rt; fault.map(shown), Some((5, 8, Port::Write, 0)));
         Ok(())
     }
 
@@ -127,7 +97,7 @@ mod tests {
         let mut words = [0x1122_3344u32; 16];
         // 0: MAR = MDR = H; wr; fetch; goto 0x001: both accesses are to word 0
         let store = store_of(0x818_01D0, 0x800_0000)?;
-        let mut machine = Datapath::power(WordMemory::make(&mut words), registers(), 0, 0);
+        let mut machine = Datapath::power(WordMemory::make(&mut words), Registers::default(), 0, 0);
         let (done, _) = machine.go(&store, 2);
         assert_eq!(rt; done, 2);
         // the fetch saw the old word, and the write is done
@@ -143,12 +113,44 @@ mod tests {
         let mut words = [0x7700_0000u32; 16];
         // 0: MAR = H; rd; fetch; goto 0x001    1: MDR = 1; goto (MBR)
         let store = store_of(0x818_00B0, 0x431_0100)?;
-        let mut machine = Datapath::power(WordMemory::make(&mut words), registers(), 0x22, 0);
+        let mut machine = Datapath::power(
+            WordMemory::make(&mut words),
+            Registers::default(),
+            0x22,
+            0,
+        );
         let (done, _) = machine.go(&store, 2);
         assert_eq!(rt; done, 2);
         let state = machine.state();
         assert_eq!(rt; (state.mpc, state.mbr), (0x22, 0x77));
         assert_eq!(rt; state.registers.mdr, 0x7700_0000);
+        Ok(())
+    }
+
+    #[test]
+    fn refusals_and_faults_as_text(rt: HostRuntime) -> Result<(), Fail> {
+        let mut words = [0u32; 16];
+        let mut memory = WordMemory::make(&mut words);
+        memory.protect(9)?;
+        let refused = memory.write(8, 1).err().ok_or("written")?;
+        let text = format!(in rt.alloc(); "{refused}")?;
+        assert_eq!(rt; text.as_str(), "refused 5: the word is protected");
+        let mut numbers = [0u64; 512];
+        numbers[7] = 0x60;
+        let refused = ControlStore::new().fill(&numbers).err().ok_or("filled")?;
+        let text = format!(in rt.alloc(); "{refused}")?;
+        assert_eq!(rt; text.as_str(), "refused 9: WRITE with READ, at address 7");
+        let fault = Fault {
+            cause: AccessRefusal::OutOfRange,
+            address: 16,
+            port: Port::Fetch,
+            mpc: 256,
+        };
+        let text = format!(in rt.alloc(); "{fault}")?;
+        assert_eq!(rt;
+            text.as_str(),
+            "refused 4: the address is not below the size: fetch of word 16, begun at MPC 256"
+        );
         Ok(())
     }
 }

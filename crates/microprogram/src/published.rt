@@ -540,6 +540,6 @@ pub fn published_store() -> ControlStore
     ensures worked { WorkedExamples }
 {
     let mut store = ControlStore::new();
-    let _ = store.fill(&numbers());
+    store.fill(&numbers()).unwrap();
     store
 }
