@@ -7,7 +7,6 @@ use Rattle.ijvm.specs.declared.cases.Case.TheVariants.{Nop, Bipush, LdcW, Iload,
 use Rattle.ijvm.specs.declared.refusal.StepRefusal.{StepRefusal}
 use Rattle.ijvm.specs.declared.refusal.StepRefusal.TheVariants.{OutsideCode, UnknownOpcode}
 use Rattle.ijvm.specs.declared.shapes.Variable.{Variable}
-use Rattle.ijvm.specs.declared.shapes.Variable.TheVariants.{Unnamed, ByByte, ByShort}
 use Rattle.ijvm.specs.declared.shapes.Way.{Way}
 use Rattle.ijvm.specs.declared.shapes.Way.TheVariants.{On, Branch, Return, Call}
 use Rattle.ijvm.specs.declared.shapes.Shape.{Shape}
@@ -68,10 +67,9 @@ module _ (s : Ijvm) where
   named : (n : ℕ) → Tests (is_variable s n) (VariableAt s n)
   named n = both (leb 1 n) (ltb (s.lv + n) (link_of s)) (at_most 1 n) (below (s.lv + n) (link_of s))
 
-  variable_tests : (v : Variable) → Tests (has_variable s v) (HasVariable s v)
-  variable_tests Unnamed = always
-  variable_tests ByByte = named (variable_of s ByByte)
-  variable_tests ByShort = named (variable_of s ByShort)
+  variable_tests : (v : Option Variable) → Tests (has_variable s v) (HasVariable s v)
+  variable_tests None = always
+  variable_tests (Some v) = named (variable_of s v)
 
   return_tests : (w : Way) → Tests (was_called s w) (WasCalled s w)
   return_tests On = always
@@ -137,7 +135,7 @@ module _ (s : Ijvm) (c : Case) where
 
   -- an entry with the opcode at PC says of its case that it is chosen
   abbrev Says : Entry → Type 0
-  Says e = byte_at s s.pc ≡ e.number → Is (case_of s e.opcode) → Chosen c s
+  Says e = byte_at s s.pc ≡ e.number → Is (case_of s (Some e.opcode)) → Chosen c s
 
   abbrev AllSay : List Entry → Type 0
   AllSay [] = Unit {0}
@@ -147,7 +145,7 @@ module _ (s : Ijvm) (c : Case) where
   found [] a e = absurd (not_ok UnknownOpcode c e)
   found (x ∷ rest) (p, ps) e = by (eqb (byte_at s s.pc) x.number) refl e (found rest ps)
     where
-      by : (b : Bool) → eqb (byte_at s s.pc) x.number ≡ b → Is (case_of s (cond b x.opcode (find (byte_at s s.pc) rest)))
+      by : (b : Bool) → eqb (byte_at s s.pc) x.number ≡ b → Is (case_of s (cond b (Some x.opcode) (find (byte_at s s.pc) rest)))
           → (Is (case_of s (find (byte_at s s.pc) rest)) → Chosen c s) → Chosen c s
       by true t h more = p (eqb-true _ _ t) h
       by false t h more = more h

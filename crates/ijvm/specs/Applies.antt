@@ -3,7 +3,6 @@ use Rattle.std.specs.Prelude.{◌≡◌, ℕ, ◌+◌, ◌*◌, ◌^◌, ◌<◌
 use Rattle.ijvm.specs.declared.cases.Case.{Case}
 use Rattle.ijvm.specs.declared.cases.Case.TheVariants.{Nop, Bipush, LdcW, Iload, Istore, Pop, Dup, Swap, Iadd, Isub, Iand, Ior, Iinc, IfeqFalls, IfeqTaken, IfltFalls, IfltTaken, IfIcmpeqFalls, IfIcmpeqTaken, Goto, Ireturn, Invokevirtual, WideIload, WideIstore}
 use Rattle.ijvm.specs.declared.shapes.Variable.{Variable}
-use Rattle.ijvm.specs.declared.shapes.Variable.TheVariants.{Unnamed, ByByte, ByShort}
 use Rattle.ijvm.specs.declared.shapes.Way.{Way}
 use Rattle.ijvm.specs.declared.shapes.Way.TheVariants.{On, Branch, Return, Call}
 use Rattle.ijvm.specs.declared.shapes.Shape.{Shape}
@@ -54,10 +53,9 @@ Callable s Call = (method_of s + 4 < 4 * s.mark) × (1 ≤ params_of s)
 abbrev pub VariableAt : Ijvm → ℕ → Type 0
 VariableAt s n = (1 ≤ n) × (s.lv + n < link_of s)
 
-abbrev pub HasVariable : Ijvm → Variable → Type 0
-HasVariable s Unnamed = Unit {0}
-HasVariable s ByByte = VariableAt s (variable_of s ByByte)
-HasVariable s ByShort = VariableAt s (variable_of s ByShort)
+abbrev pub HasVariable : Ijvm → Option Variable → Type 0
+HasVariable s None = Unit {0}
+HasVariable s (Some v) = VariableAt s (variable_of s v)
 
 -- A return is not from main.
 abbrev pub WasCalled : Ijvm → Way → Type 0

@@ -1,9 +1,9 @@
 -- The opcodes: which cases an opcode may be.
-use Rattle.std.specs.Prelude.{ℕ, cond, List, [], ◌∷◌, ◌==◌}
+use Rattle.std.specs.Prelude.{ℕ, cond, List, [], ◌∷◌, Some, None, Option, ◌==◌}
 use Rattle.ijvm.specs.declared.cases.Case.{Case}
 use Rattle.ijvm.specs.declared.cases.Case.TheVariants.{Nop, Bipush, LdcW, Iload, Istore, Pop, Dup, Swap, Iadd, Isub, Iand, Ior, Iinc, IfeqFalls, IfltFalls, IfIcmpeqFalls, Goto, Ireturn, Invokevirtual, WideIload}
 use Rattle.ijvm.specs.declared.opcodes.Opcode.{Opcode}
-use Rattle.ijvm.specs.declared.opcodes.Opcode.TheVariants.{One, Ifeq, Iflt, IfIcmpeq, Wide, Unknown}
+use Rattle.ijvm.specs.declared.opcodes.Opcode.TheVariants.{One, Ifeq, Iflt, IfIcmpeq, Wide}
 use Rattle.ijvm.specs.Table.{row_of}
 
 -- An opcode's number, and what it is.
@@ -26,10 +26,10 @@ entries =
     ∷ (one Goto ∷ (one Ireturn ∷ (one Invokevirtual ∷ (several WideIload Wide
     ∷ [])))))))))))))))))))
 
--- The opcode with this number; unknown where there is none.
-abbrev pub find : ℕ → List Entry → Opcode
-find n [] = Unknown
-find n (e ∷ rest) = cond (n == e.number) e.opcode (find n rest)
+-- The opcode with this number, if there is one.
+abbrev pub find : ℕ → List Entry → Option Opcode
+find n [] = None
+find n (e ∷ rest) = cond (n == e.number) (Some e.opcode) (find n rest)
 
-abbrev pub opcode_of : ℕ → Opcode
+abbrev pub opcode_of : ℕ → Option Opcode
 opcode_of n = find n entries

@@ -4,11 +4,10 @@ use Rattle.control.specs.Alu.{negative}
 use Rattle.ijvm.specs.declared.cases.Case.{Case}
 use Rattle.ijvm.specs.declared.cases.Case.TheVariants.{IfeqFalls, IfeqTaken, IfltFalls, IfltTaken, IfIcmpeqFalls, IfIcmpeqTaken, Iload, Istore, WideIload, WideIstore}
 use Rattle.ijvm.specs.declared.opcodes.Opcode.{Opcode}
-use Rattle.ijvm.specs.declared.opcodes.Opcode.TheVariants.{One, Ifeq, Iflt, IfIcmpeq, Wide, Unknown}
+use Rattle.ijvm.specs.declared.opcodes.Opcode.TheVariants.{One, Ifeq, Iflt, IfIcmpeq, Wide}
 use Rattle.ijvm.specs.declared.refusal.StepRefusal.{StepRefusal}
 use Rattle.ijvm.specs.declared.refusal.StepRefusal.TheVariants.{OutsideCode, UnknownOpcode, TooShallow, NoVariable, NotInPool, WrongMethod, NoRoom, NextOutside, End, NotLoaded}
 use Rattle.ijvm.specs.declared.shapes.Variable.{Variable}
-use Rattle.ijvm.specs.declared.shapes.Variable.TheVariants.{Unnamed, ByByte, ByShort}
 use Rattle.ijvm.specs.declared.shapes.Way.{Way}
 use Rattle.ijvm.specs.declared.shapes.Way.TheVariants.{On, Branch, Return, Call}
 use Rattle.ijvm.specs.declared.shapes.Shape.{Shape}
@@ -24,14 +23,14 @@ wide_of s =
     (cond (byte_at s (s.pc + 1) == (row_of Istore).opcode) (Ok WideIstore) (Err UnknownOpcode)))
     (Err OutsideCode)
 
--- The case that an opcode is in a state: IFEQ branches on a top of 0, IFLT on a negative one, IF_ICMPEQ where second and top are equal. 31: an unknown opcode.
-abbrev pub case_of : Ijvm → Opcode → Result Case StepRefusal
-case_of s (One c) = Ok c
-case_of s Ifeq = Ok (cond (top_of s == 0) IfeqTaken IfeqFalls)
-case_of s Iflt = Ok (cond (negative (top_of s)) IfltTaken IfltFalls)
-case_of s IfIcmpeq = Ok (cond (second_of s == top_of s) IfIcmpeqTaken IfIcmpeqFalls)
-case_of s Wide = wide_of s
-case_of s Unknown = Err UnknownOpcode
+-- The case that an opcode is in a state: IFEQ branches on a top of 0, IFLT on a negative one, IF_ICMPEQ where second and top are equal. 31: no instruction has the opcode.
+abbrev pub case_of : Ijvm → Option Opcode → Result Case StepRefusal
+case_of s (Some (One c)) = Ok c
+case_of s (Some Ifeq) = Ok (cond (top_of s == 0) IfeqTaken IfeqFalls)
+case_of s (Some Iflt) = Ok (cond (negative (top_of s)) IfltTaken IfltFalls)
+case_of s (Some IfIcmpeq) = Ok (cond (second_of s == top_of s) IfIcmpeqTaken IfIcmpeqFalls)
+case_of s (Some Wide) = wide_of s
+case_of s None = Err UnknownOpcode
 
 -- The checks, each applied to every case.
 -- 30: all bytes of the instruction lie in code.
@@ -57,10 +56,9 @@ needed_of s h Return = h.depth
 needed_of s h Call = params_of s
 
 -- 33: a variable that the instruction names is one of the frame.
-abbrev pub has_variable : Ijvm → Variable → Bool
-has_variable s Unnamed = true
-has_variable s ByByte = is_variable s (variable_of s ByByte)
-has_variable s ByShort = is_variable s (variable_of s ByShort)
+abbrev pub has_variable : Ijvm → Option Variable → Bool
+has_variable s None = true
+has_variable s (Some v) = is_variable s (variable_of s v)
 
 -- 38: a return is not from main, whose frame lies at the mark.
 abbrev pub was_called : Ijvm → Way → Bool

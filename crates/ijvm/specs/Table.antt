@@ -1,11 +1,11 @@
 -- The table of the instructions: a row for each case, and what a case does.
-use Rattle.std.specs.Prelude.{ℕ, ◌+◌, ◌-◌, ◌%◌, ◌^◌, Bool, true, false, List, [], ◌∷◌, Some, Option, bit_and, bit_or, slice_set}
+use Rattle.std.specs.Prelude.{ℕ, ◌+◌, ◌-◌, ◌%◌, ◌^◌, Bool, true, false, List, [], ◌∷◌, Some, None, Option, bit_and, bit_or, slice_set}
 use Rattle.control.specs.Bus.{signed}
 use Rattle.datapath.specs.Cycle.{arriving}
 use Rattle.ijvm.specs.declared.cases.Case.{Case}
 use Rattle.ijvm.specs.declared.cases.Case.TheVariants.{Nop, Bipush, LdcW, Iload, Istore, Pop as PopCase, Dup, Swap, Iadd, Isub, Iand, Ior, Iinc, IfeqFalls, IfeqTaken, IfltFalls, IfltTaken, IfIcmpeqFalls, IfIcmpeqTaken, Goto, Ireturn, Invokevirtual, WideIload, WideIstore}
 use Rattle.ijvm.specs.declared.shapes.Variable.{Variable}
-use Rattle.ijvm.specs.declared.shapes.Variable.TheVariants.{Unnamed, ByByte, ByShort}
+use Rattle.ijvm.specs.declared.shapes.Variable.TheVariants.{ByByte, ByShort}
 use Rattle.ijvm.specs.declared.shapes.Stack.{Stack}
 use Rattle.ijvm.specs.declared.shapes.Stack.TheVariants.{Same, Push, Pop, PopTwo, Enter, Leave}
 use Rattle.ijvm.specs.declared.shapes.Way.{Way}
@@ -15,7 +15,6 @@ use Rattle.ijvm.specs.Machine.{Ijvm, word_at, byte_at, short_at, link_of, top_of
 
 -- The number of the variable that an instruction names: unsigned, in the byte behind the opcode, or in the two bytes behind WIDE's second opcode.
 abbrev pub variable_of : Ijvm → Variable → ℕ
-variable_of s Unnamed = 0
 variable_of s ByByte = byte_at s (s.pc + 1)
 variable_of s ByShort = short_at s (s.pc + 2)
 
@@ -80,7 +79,7 @@ pub record Row : Type 0 where
   pub cycles : ℕ
   pub writes : Ijvm → List ℕ
 
-abbrev row : (opcode bytes : ℕ) (pool : Bool) (depth : ℕ) → Variable → Stack → Way → (cycles : ℕ) → (Ijvm → List ℕ) → Row
+abbrev row : (opcode bytes : ℕ) (pool : Bool) (depth : ℕ) → Option Variable → Stack → Way → (cycles : ℕ) → (Ijvm → List ℕ) → Row
 row opcode bytes pool depth variable stack way cycles writes = record {
   opcode = opcode;
   shape = record { bytes = bytes; pool = pool; depth = depth; variable = variable; stack = stack; way = way };
@@ -90,30 +89,30 @@ row opcode bytes pool depth variable stack way cycles writes = record {
 
 -- The table: opcode, bytes, whether an index or disp of the pool stands behind the opcode, depth (a call needs its params besides), variable, new SP, next PC, cycles, words.
 abbrev pub row_of : Case → Row
-row_of Nop = row 0x00 1 false 0 Unnamed Same On 2 keeping
-row_of Bipush = row 0x10 2 false 0 Unnamed Push On 4 (pushing signed_byte_of)
-row_of LdcW = row 0x13 3 true 0 Unnamed Push On 8 (pushing constant_of)
-row_of Iload = row 0x15 2 false 0 ByByte Push On 6 (pushing (loaded_of ByByte))
-row_of Istore = row 0x36 2 false 1 ByByte Pop On 7 (storing ByByte top_of)
-row_of PopCase = row 0x57 1 false 1 Unnamed Pop On 4 keeping
-row_of Dup = row 0x59 1 false 1 Unnamed Push On 3 (pushing top_of)
-row_of Swap = row 0x5F 1 false 2 Unnamed Same On 7 swapping
-row_of Iadd = row 0x60 1 false 2 Unnamed Pop On 4 (joining sum_of)
-row_of Isub = row 0x64 1 false 2 Unnamed Pop On 4 (joining difference_of)
-row_of Iand = row 0x7E 1 false 2 Unnamed Pop On 4 (joining and_of)
-row_of Ior = row 0x80 1 false 2 Unnamed Pop On 4 (joining or_of)
-row_of Iinc = row 0x84 3 false 0 ByByte Same On 7 (storing ByByte increased_of)
-row_of IfeqFalls = row 0x99 3 false 1 Unnamed Pop On 8 keeping
-row_of IfeqTaken = row 0x99 3 false 1 Unnamed Pop Branch 11 keeping
-row_of IfltFalls = row 0x9B 3 false 1 Unnamed Pop On 8 keeping
-row_of IfltTaken = row 0x9B 3 false 1 Unnamed Pop Branch 11 keeping
-row_of IfIcmpeqFalls = row 0x9F 3 false 2 Unnamed PopTwo On 10 keeping
-row_of IfIcmpeqTaken = row 0x9F 3 false 2 Unnamed PopTwo Branch 13 keeping
-row_of Goto = row 0xA7 3 false 0 Unnamed Same Branch 7 keeping
-row_of Ireturn = row 0xAC 1 false 1 Unnamed Leave Return 9 leaving
-row_of Invokevirtual = row 0xB6 3 true 0 Unnamed Enter Call 23 entering
-row_of WideIload = row 0xC4 4 false 0 ByShort Push On 10 (pushing (loaded_of ByShort))
-row_of WideIstore = row 0xC4 4 false 1 ByShort Pop On 11 (storing ByShort top_of)
+row_of Nop = row 0x00 1 false 0 None Same On 2 keeping
+row_of Bipush = row 0x10 2 false 0 None Push On 4 (pushing signed_byte_of)
+row_of LdcW = row 0x13 3 true 0 None Push On 8 (pushing constant_of)
+row_of Iload = row 0x15 2 false 0 (Some ByByte) Push On 6 (pushing (loaded_of ByByte))
+row_of Istore = row 0x36 2 false 1 (Some ByByte) Pop On 7 (storing ByByte top_of)
+row_of PopCase = row 0x57 1 false 1 None Pop On 4 keeping
+row_of Dup = row 0x59 1 false 1 None Push On 3 (pushing top_of)
+row_of Swap = row 0x5F 1 false 2 None Same On 7 swapping
+row_of Iadd = row 0x60 1 false 2 None Pop On 4 (joining sum_of)
+row_of Isub = row 0x64 1 false 2 None Pop On 4 (joining difference_of)
+row_of Iand = row 0x7E 1 false 2 None Pop On 4 (joining and_of)
+row_of Ior = row 0x80 1 false 2 None Pop On 4 (joining or_of)
+row_of Iinc = row 0x84 3 false 0 (Some ByByte) Same On 7 (storing ByByte increased_of)
+row_of IfeqFalls = row 0x99 3 false 1 None Pop On 8 keeping
+row_of IfeqTaken = row 0x99 3 false 1 None Pop Branch 11 keeping
+row_of IfltFalls = row 0x9B 3 false 1 None Pop On 8 keeping
+row_of IfltTaken = row 0x9B 3 false 1 None Pop Branch 11 keeping
+row_of IfIcmpeqFalls = row 0x9F 3 false 2 None PopTwo On 10 keeping
+row_of IfIcmpeqTaken = row 0x9F 3 false 2 None PopTwo Branch 13 keeping
+row_of Goto = row 0xA7 3 false 0 None Same Branch 7 keeping
+row_of Ireturn = row 0xAC 1 false 1 None Leave Return 9 leaving
+row_of Invokevirtual = row 0xB6 3 true 0 None Enter Call 23 entering
+row_of WideIload = row 0xC4 4 false 0 (Some ByShort) Push On 10 (pushing (loaded_of ByShort))
+row_of WideIstore = row 0xC4 4 false 1 (Some ByShort) Pop On 11 (storing ByShort top_of)
 
 abbrev pub shape_of : Case → Shape
 shape_of c = (row_of c).shape

@@ -4,10 +4,9 @@ ghost use Rattle.ijvm.specs.Table.{shape_of};
 
 use crate::Case;
 
-// The variable that an instruction names: none, by the byte behind the opcode, or by the two bytes behind WIDE's second opcode.
+// How an instruction names its variable: by the byte behind the opcode, or by the two bytes behind WIDE's second opcode.
 #[derive(Clone, Copy)]
 pub enum Variable {
-    Unnamed,
     ByByte,
     ByShort,
 }
@@ -41,13 +40,14 @@ pub struct Shape {
     pub pool: bool,
     // words that it needs on the operand stack; a call needs its params besides
     pub depth: u8,
-    pub variable: Variable,
+    // the variable that it names, if it names one
+    pub variable: Option<Variable>,
     pub stack: Stack,
     pub way: Way,
 }
 
 // The same, by its columns.
-fn row(bytes: u8, pool: bool, depth: u8, variable: Variable, stack: Stack, way: Way) -> Shape
+fn row(bytes: u8, pool: bool, depth: u8, variable: Option<Variable>, stack: Stack, way: Way) -> Shape
     ensures { result ≡ record { bytes = bytes; pool = pool; depth = depth; variable = variable; stack = stack; way = way } }
 {
     Shape {
@@ -66,30 +66,30 @@ impl Shape {
         ensures { result ≡ shape_of case }
     {
         match case {
-            Case::Nop => row(1, false, 0, Variable::Unnamed, Stack::Same, Way::On),
-            Case::Bipush => row(2, false, 0, Variable::Unnamed, Stack::Push, Way::On),
-            Case::LdcW => row(3, true, 0, Variable::Unnamed, Stack::Push, Way::On),
-            Case::Iload => row(2, false, 0, Variable::ByByte, Stack::Push, Way::On),
-            Case::Istore => row(2, false, 1, Variable::ByByte, Stack::Pop, Way::On),
-            Case::Pop => row(1, false, 1, Variable::Unnamed, Stack::Pop, Way::On),
-            Case::Dup => row(1, false, 1, Variable::Unnamed, Stack::Push, Way::On),
-            Case::Swap => row(1, false, 2, Variable::Unnamed, Stack::Same, Way::On),
-            Case::Iadd => row(1, false, 2, Variable::Unnamed, Stack::Pop, Way::On),
-            Case::Isub => row(1, false, 2, Variable::Unnamed, Stack::Pop, Way::On),
-            Case::Iand => row(1, false, 2, Variable::Unnamed, Stack::Pop, Way::On),
-            Case::Ior => row(1, false, 2, Variable::Unnamed, Stack::Pop, Way::On),
-            Case::Iinc => row(3, false, 0, Variable::ByByte, Stack::Same, Way::On),
-            Case::IfeqFalls => row(3, false, 1, Variable::Unnamed, Stack::Pop, Way::On),
-            Case::IfeqTaken => row(3, false, 1, Variable::Unnamed, Stack::Pop, Way::Branch),
-            Case::IfltFalls => row(3, false, 1, Variable::Unnamed, Stack::Pop, Way::On),
-            Case::IfltTaken => row(3, false, 1, Variable::Unnamed, Stack::Pop, Way::Branch),
-            Case::IfIcmpeqFalls => row(3, false, 2, Variable::Unnamed, Stack::PopTwo, Way::On),
-            Case::IfIcmpeqTaken => row(3, false, 2, Variable::Unnamed, Stack::PopTwo, Way::Branch),
-            Case::Goto => row(3, false, 0, Variable::Unnamed, Stack::Same, Way::Branch),
-            Case::Ireturn => row(1, false, 1, Variable::Unnamed, Stack::Leave, Way::Return),
-            Case::Invokevirtual => row(3, true, 0, Variable::Unnamed, Stack::Enter, Way::Call),
-            Case::WideIload => row(4, false, 0, Variable::ByShort, Stack::Push, Way::On),
-            Case::WideIstore => row(4, false, 1, Variable::ByShort, Stack::Pop, Way::On),
+            Case::Nop => row(1, false, 0, None, Stack::Same, Way::On),
+            Case::Bipush => row(2, false, 0, None, Stack::Push, Way::On),
+            Case::LdcW => row(3, true, 0, None, Stack::Push, Way::On),
+            Case::Iload => row(2, false, 0, Some(Variable::ByByte), Stack::Push, Way::On),
+            Case::Istore => row(2, false, 1, Some(Variable::ByByte), Stack::Pop, Way::On),
+            Case::Pop => row(1, false, 1, None, Stack::Pop, Way::On),
+            Case::Dup => row(1, false, 1, None, Stack::Push, Way::On),
+            Case::Swap => row(1, false, 2, None, Stack::Same, Way::On),
+            Case::Iadd => row(1, false, 2, None, Stack::Pop, Way::On),
+            Case::Isub => row(1, false, 2, None, Stack::Pop, Way::On),
+            Case::Iand => row(1, false, 2, None, Stack::Pop, Way::On),
+            Case::Ior => row(1, false, 2, None, Stack::Pop, Way::On),
+            Case::Iinc => row(3, false, 0, Some(Variable::ByByte), Stack::Same, Way::On),
+            Case::IfeqFalls => row(3, false, 1, None, Stack::Pop, Way::On),
+            Case::IfeqTaken => row(3, false, 1, None, Stack::Pop, Way::Branch),
+            Case::IfltFalls => row(3, false, 1, None, Stack::Pop, Way::On),
+            Case::IfltTaken => row(3, false, 1, None, Stack::Pop, Way::Branch),
+            Case::IfIcmpeqFalls => row(3, false, 2, None, Stack::PopTwo, Way::On),
+            Case::IfIcmpeqTaken => row(3, false, 2, None, Stack::PopTwo, Way::Branch),
+            Case::Goto => row(3, false, 0, None, Stack::Same, Way::Branch),
+            Case::Ireturn => row(1, false, 1, None, Stack::Leave, Way::Return),
+            Case::Invokevirtual => row(3, true, 0, None, Stack::Enter, Way::Call),
+            Case::WideIload => row(4, false, 0, Some(Variable::ByShort), Stack::Push, Way::On),
+            Case::WideIstore => row(4, false, 1, Some(Variable::ByShort), Stack::Pop, Way::On),
         }
     }
 }
