@@ -1,5 +1,6 @@
 -- Every case of the table takes its entry in cycles, and so does any list of them.
-use Rattle.std.proofs.Common.{◌≡◌, ℕ, zero, suc, ◌+◌, ◌^◌, ◌<◌, List, [], ◌∷◌, Some, None, Ok, Err, Result, refl, ap, subst, suc-add, zero-add, arith}
+use Rattle.std.proofs.Common.{◌≡◌, ℕ, zero, suc, ◌+◌, ◌^◌, ◌<◌, ◌≤◌, List, [], ◌∷◌, Some, None, Ok, Err, Result, length, get_or, drop, refl, ap, subst, suc-add, zero-add, arith}
+use Rattle.std.proofs.lemmas.List.{at_drop_more, at_drop_all}
 use Rattle.datapath.specs.declared.pending.Fault.{Fault}
 use Rattle.datapath.specs.Cycle.{Micro, cycle_of}
 use Rattle.datapath.specs.Go.{Gone, later, go_on, go_of}
@@ -8,6 +9,7 @@ use Rattle.ijvm.specs.declared.cases.Case.{Case}
 use Rattle.ijvm.specs.declared.cases.Case.TheVariants.{Nop, Bipush, LdcW, Iload, Istore, Pop, Dup, Swap, Iadd, Isub, Iand, Ior, Iinc, IfeqFalls, IfeqTaken, IfltFalls, IfltTaken, IfIcmpeqFalls, IfIcmpeqTaken, Goto, Ireturn, Invokevirtual, WideIload, WideIstore}
 use Rattle.ijvm.specs.Machine.{Ijvm}
 use Rattle.ijvm.specs.Table.{cycles_of, effect_of}
+use Rattle.ijvm.specs.Step.{step_of}
 use Rattle.ijvm.specs.Applies.{Applies}
 use Rattle.ijvm.specs.Stands.{Stands, Takes}
 use Rattle.ijvm.specs.Sound.{Sound}
@@ -46,8 +48,12 @@ by_lines Invokevirtual s m r so st f = invoke_runs s m so st f
 by_lines WideIload s m r so st f = wide_iload_runs s m so st f
 by_lines WideIstore s m r so st f = wide_istore_runs s m so st f
 
-pub every_case : (c : Case) → CaseTakes c (cycles_of c)
+pub every_case : (c : Case) (s : Ijvm) (m : Micro) → Sound s → Stands m s → step_of s ≡ Ok c → Takes (cycles_of c) m (effect_of c s)
 every_case c s m r st e = by_lines c s m r (laid_out s r) st (applies_of c s e)
+
+pub case_takes : (c : Case) (cycles : ℕ) → cycles ≡ cycles_of c → CaseTakes c cycles
+unfolding CaseTakes
+case_takes c cycles e = rw e (every_case c)
 
 -- Cycles after cycles.
 no_fault : (m n : Micro) (f : Fault) (d k : ℕ) → ◌≡◌ {A = Gone} (record { done = d; fault = Some f; after = m }) (all_done k n) → ⊥
@@ -90,3 +96,10 @@ performed_takes (c ∷ cs) s t m r st small (e, rest) =
 pub adds_up : (cases : List Case) → AddsUp cases
 adds_up cases s t m r st small p front rest e =
     performed_takes front s (after front s) m r st small (performs_front front rest s t (subst (λ (x : List Case). Performs x s t) e p))
+
+-- The entries that are left, in a loop over a list.
+pub one_off : (cases : List Case) (i : ℕ) → i < length cases → total (drop i cases) ≡ cycles_of (get_or cases i Nop) + total (drop (i + 1) cases)
+one_off cases i h = at_drop_more total cases i Nop h
+
+pub none_left : (cases : List Case) (i : ℕ) → length cases ≤ i → total (drop i cases) ≡ 0
+none_left cases i h = at_drop_all total cases i h

@@ -1,5 +1,5 @@
 -- The summing method, step by step.
-use Rattle.std.proofs.Common.{◌≡◌, ℕ, zero, suc, ◌+◌, ◌-◌, ◌*◌, ◌/◌, ◌%◌, ◌^◌, ◌<◌, ◌≤◌, ◌≢◌, List, [], ◌∷◌, ◌++◌, get_or, set, replicate, Err, sym, refl, ap, subst, zero-add, add-one, arith}
+use Rattle.std.proofs.Common.{◌≡◌, ℕ, zero, suc, ◌+◌, ◌-◌, ◌*◌, ◌/◌, ◌%◌, ◌^◌, ◌<◌, ◌≤◌, ◌≢◌, ◌⊎◌, List, [], ◌∷◌, ◌++◌, get_or, set, replicate, Some, None, Err, sym, refl, ap, ◌∙◌, subst, zero-add, add-one, arith}
 use borrow.Author.Tests.{lt-leb}
 use Rattle.control.specs.Bus.{signed}
 use Rattle.ijvm.specs.declared.cases.Case.{Case}
@@ -11,7 +11,7 @@ use Rattle.ijvm.specs.Step.{step_of}
 use Rattle.ijvm.specs.Stands.{Takes}
 use Rattle.ijvm.specs.Sound.{Sound}
 use Rattle.ijvm.specs.Performed.{Performs, total}
-use Rattle.ijvm.specs.Summing.{program, summing, head, turn, one_lower, last_turn, loop, up_to, method, start, finish, TakesOnTheMic1, ATurnTakes, TheLoopTakes, TheMethodTakes}
+use Rattle.ijvm.specs.Summing.{program, summing, head, turn, one_lower, last_turn, loop, up_to, method, start, finish, TakesOnTheMic1, ATurnTakes, TheLoopTakes, TheMethodTakes, MethodAnswer}
 use Rattle.ijvm.proofs.Applied.{step_of_lem}
 use Rattle.ijvm.proofs.Lists.{performs_both}
 use Rattle.ijvm.proofs.EveryCase.{performed_takes}
@@ -152,12 +152,14 @@ a_turn_takes = record {
   on_the_mic_1 = λ n count sum first second rest small ne. on_mic_1 turn _ _ (a_turn n rest count sum first second small ne) 51 refl;
 }
 
-pub the_loop_takes_lem : (k : ℕ) → TheLoopTakes k (51 * k + 47)
-the_loop_takes_lem k = record {
-  in_all = loop_total k;
-  performs = λ n sum first second rest. the_loop n rest k sum first second;
-  on_the_mic_1 = λ n sum first second rest small. on_mic_1 (loop k) _ _ (the_loop n rest k sum first second small) (51 * k + 47) (loop_total k);
-}
+pub the_loop_takes_lem : (k cycles : ℕ) → cycles ≡ 51 * k + 47 → TheLoopTakes k cycles
+unfolding TheLoopTakes
+the_loop_takes_lem k cycles e =
+    let all : total (loop k) ≡ cycles = loop_total k ∙ sym e in (
+      all,
+      λ n sum first second rest. the_loop n rest k sum first second,
+      λ n sum first second rest small. on_mic_1 (loop k) _ _ (the_loop n rest k sum first second small) cycles all,
+    )
 
 module _ (k : ℕ) (small : k + 1 ≤ 127) where
   one_off : k + 1 - 1 ≡ k
@@ -203,11 +205,21 @@ starts_sound n h = record {
   pc_in = omega arith;
 }
 
-pub the_method_takes : (k : ℕ) → k + 1 ≤ 127 → TheMethodTakes (k + 1) (51 * (k + 1) + 24)
-the_method_takes k small = record {
+method_takes : (k : ℕ) → k + 1 ≤ 127 → TheMethodTakes (k + 1) (51 * (k + 1) + 24)
+method_takes k small = record {
   in_all = in_all k small;
   performs = whole k small;
   ends = λ rest. ended (k + 1) rest (up_to (k + 1));
   on_the_mic_1 = λ rest. on_mic_1 (method (k + 1)) _ _ (whole k small rest) (51 * (k + 1) + 24) (in_all k small);
   starts_sound = starts_sound (k + 1) small;
 }
+
+pub an_answer : (n cycles : ℕ) → 1 ≤ n → n ≤ 127 → cycles ≡ 51 * n + 24 → MethodAnswer n (Some cycles)
+unfolding MethodAnswer
+an_answer n cycles from to e =
+    let next : n - 1 + 1 ≡ n = omega arith in
+    (from, to, e, rw e (subst (λ k. TheMethodTakes k (51 * k + 24)) next (method_takes (n - 1) (omega arith))))
+
+pub no_answer : (n : ℕ) → (n ≡ 0) ⊎ (128 ≤ n) → MethodAnswer n None
+unfolding MethodAnswer
+no_answer n h = h

@@ -9,7 +9,7 @@ use Rattle.ijvm.specs.Stands.{Stands, Takes}
 use Rattle.ijvm.specs.Sound.{Sound}
 
 -- Every case takes its entry: from a machine that stands for a sound state, where a step performs this case, so many cycles lead to a machine that stands for the state after it.
-abbrev pub CaseTakes : Case → ℕ → Type 0
+unfoldable pub CaseTakes : Case → ℕ → Type 0
 CaseTakes c cycles = (s : Ijvm) (m : Micro) → Sound s → Stands m s → step_of s ≡ Ok c → Takes cycles m (effect_of c s)
 
 -- What a started program reaches stays sound: where a step performs this case in a sound state, the state after it is sound.

@@ -5,42 +5,31 @@ ghost use Rattle.ijvm.specs.Refusals.{step_number};
 #[derive(Clone, Copy)]
 pub enum StepRefusal {
     // a byte of the instruction lies outside code
-    OutsideCode,
+    OutsideCode = 30,
     // no instruction has this opcode
-    UnknownOpcode,
+    UnknownOpcode = 31,
     // the operand stack is not deep enough
-    TooShallow,
+    TooShallow = 32,
     // the frame has no such variable
-    NoVariable,
+    NoVariable = 33,
     // the index or disp is not below the pool count
-    NotInPool,
+    NotInPool = 34,
     // the method's code lies outside code, or it has no params
-    WrongMethod,
+    WrongMethod = 35,
     // the new SP is not below size
-    NoRoom,
+    NoRoom = 36,
     // the next PC lies outside code
-    NextOutside,
+    NextOutside = 37,
     // main returns: the regular end
-    End,
+    End = 38,
     // no program is loaded
-    NotLoaded,
+    NotLoaded = 39,
 }
 
 impl StepRefusal {
     pub fn number(self) -> u32
         ensures { result ≡ step_number self }
     {
-        match self {
-            StepRefusal::OutsideCode => 30,
-            StepRefusal::UnknownOpcode => 31,
-            StepRefusal::TooShallow => 32,
-            StepRefusal::NoVariable => 33,
-            StepRefusal::NotInPool => 34,
-            StepRefusal::WrongMethod => 35,
-            StepRefusal::NoRoom => 36,
-            StepRefusal::NextOutside => 37,
-            StepRefusal::End => 38,
-            StepRefusal::NotLoaded => 39,
-        }
+        self as u32
     }
 }

@@ -1,6 +1,7 @@
 // What a step asks of each case before it is performed.
 ghost use Rattle.std.specs.Prelude.{◌≡◌};
 ghost use Rattle.ijvm.specs.Table.{shape_of};
+ghost use Rattle.ijvm.specs.Applies.{PerformedWhereItApplies};
 
 use crate::Case;
 
@@ -47,7 +48,14 @@ pub struct Shape {
 }
 
 // The same, by its columns.
-fn row(bytes: u8, pool: bool, depth: u8, variable: Option<Variable>, stack: Stack, way: Way) -> Shape
+fn row(
+    bytes: u8,
+    pool: bool,
+    depth: u8,
+    variable: Option<Variable>,
+    stack: Stack,
+    way: Way,
+) -> Shape
     ensures { result ≡ record { bytes = bytes; pool = pool; depth = depth; variable = variable; stack = stack; way = way } }
 {
     Shape {
@@ -92,4 +100,13 @@ impl Shape {
             Case::WideIstore => row(4, false, 1, Some(Variable::ByShort), Stack::Pop, Way::On),
         }
     }
+}
+
+// A step performs a case exactly where it applies, by what its row asks for; so where nothing is refused exactly one case applies.
+#[tactic(auto, using(crate::proofs::Applied::applied))]
+pub fn a_case_is_performed_where_it_applies(case: Case) -> Shape
+    ensures row { result ≡ shape_of case }
+    ensures applies { PerformedWhereItApplies case }
+{
+    Shape::of(case)
 }

@@ -1,6 +1,6 @@
 use Rattle.std.proofs.Common.{◌≡◌, ◌+◌, ◌%◌, ◌^◌, ◌<◌, drop}
 use Rattle.ijvm.specs.Performed.{total}
-use Rattle.ijvm.proofs.theorems.sum.Given as goal
+use Rattle.ijvm.proofs.theorems.performed_instructions_add_up.Given as goal
 
 -- what is left, added to the sum so far, gives the whole
 abbrev pub invariant-loop-case : goal.invariant-loop-case
