@@ -1,5 +1,5 @@
 // The cases of the cycle table: an instruction, or one of the two ways that a branch can go.
-#[derive(Clone, Copy)]
+#[derive(Clone, Copy, Debug, PartialEq, Eq)]
 pub enum Case {
     Nop,
     Bipush,

@@ -5,7 +5,7 @@ ghost use Rattle.ijvm.specs.Opcodes.{opcode_of};
 use crate::Case;
 
 // What an opcode is: one case of the table, or several, of which the state decides.
-#[derive(Clone, Copy)]
+#[derive(Clone, Copy, Debug, PartialEq, Eq)]
 pub enum Opcode {
     One(Case),
     Ifeq,

@@ -6,14 +6,14 @@ ghost use Rattle.ijvm.specs.Applies.{PerformedWhereItApplies};
 use crate::Case;
 
 // How an instruction names its variable: by the byte behind the opcode, or by the two bytes behind WIDE's second opcode.
-#[derive(Clone, Copy)]
+#[derive(Clone, Copy, Debug, PartialEq, Eq)]
 pub enum Variable {
     ByByte,
     ByShort,
 }
 
 // The new SP: as it was, one word pushed, one or two popped, at the end of a called method's frame, or at the frame that is left.
-#[derive(Clone, Copy)]
+#[derive(Clone, Copy, Debug, PartialEq, Eq)]
 pub enum Stack {
     Same,
     Push,
@@ -24,7 +24,7 @@ pub enum Stack {
 }
 
 // Where the next instruction lies: behind this one, at a branch's target, where a method returns to, or where a called method begins.
-#[derive(Clone, Copy)]
+#[derive(Clone, Copy, Debug, PartialEq, Eq)]
 pub enum Way {
     On,
     Branch,
@@ -33,7 +33,7 @@ pub enum Way {
 }
 
 // A row of the table, as far as the checks of a step go by it.
-#[derive(Clone, Copy)]
+#[derive(Clone, Copy, Debug, PartialEq, Eq)]
 pub struct Shape {
     // bytes of the instruction
     pub bytes: u8,
