@@ -1,92 +1,55 @@
 // What a cycle changed, as text.
 use datapath::{DataAccess, State};
-use std::alloc::{AllocError, Global};
+use std::fmt;
 
-// Adds a register that changed, with its new value as a signed number.
-fn add_register(
-    text: &mut String,
-    heap: Global,
-    name: &'static str,
-    before: u32,
-    after: u32,
-) -> Result<(), AllocError> {
-    if before != after {
-        let value = after.cast_signed();
-        let change = format!(in heap; " {name}={value}")?;
-        text.push_str(change.as_str())?;
-    }
-    Ok(())
+// The state before a cycle and the one after it. Displayed are the registers and the word that changed, then what is under way now.
+#[derive(Clone, Copy)]
+pub struct Changes {
+    pub before: State,
+    pub after: State,
 }
 
-// Adds the registers that changed.
-fn add_registers(
-    text: &mut String,
-    heap: Global,
-    before: &State,
-    after: &State,
-) -> Result<(), AllocError> {
-    let old = before.registers;
-    let new = after.registers;
-    add_register(text, heap, "PC", old.pc, new.pc)?;
-    add_register(text, heap, "SP", old.sp, new.sp)?;
-    add_register(text, heap, "LV", old.lv, new.lv)?;
-    add_register(text, heap, "CPP", old.cpp, new.cpp)?;
-    add_register(text, heap, "TOS", old.tos, new.tos)?;
-    add_register(text, heap, "OPC", old.opc, new.opc)?;
-    add_register(text, heap, "H", old.h, new.h)?;
-    add_register(text, heap, "MAR", old.mar, new.mar)?;
-    add_register(text, heap, "MDR", old.mdr, new.mdr)
+impl Changes {
+    // The registers that changed, with their new values as signed numbers.
+    fn registers<W: fmt::Write>(&self, f: &mut fmt::Formatter<W>) -> fmt::Result {
+        let old = self.before.registers;
+        let new = self.after.registers;
+        for (name, before, after) in [
+            ("PC", old.pc, new.pc),
+            ("SP", old.sp, new.sp),
+            ("LV", old.lv, new.lv),
+            ("CPP", old.cpp, new.cpp),
+            ("TOS", old.tos, new.tos),
+            ("OPC", old.opc, new.opc),
+            ("H", old.h, new.h),
+            ("MAR", old.mar, new.mar),
+            ("MDR", old.mdr, new.mdr),
+        ] {
+            if before != after {
+                write!(f, " {name}={}", after.cast_signed())?;
+            }
+        }
+        Ok(())
+    }
 }
 
-// Adds the write that was completed.
-fn add_write(text: &mut String, heap: Global, before: &State) -> Result<(), AllocError> {
-    if let Some(
-        DataAccess::Write {
-            address,
-            mpc: _,
-            word,
-        },
-    ) = before.access
-    {
-        let value = word.cast_signed();
-        let change = format!(in heap; " word{address}={value}")?;
-        text.push_str(change.as_str())?;
+impl fmt::Display for Changes {
+    fn fmt<W: fmt::Write>(&self, f: &mut fmt::Formatter<W>) -> fmt::Result {
+        self.registers(f)?;
+        if self.before.mbr != self.after.mbr {
+            write!(f, " MBR={}", self.after.mbr)?;
+        }
+        if let Some(DataAccess::Write { address, word, .. }) = self.before.access {
+            write!(f, " word{address}={}", word.cast_signed())?;
+        }
+        match self.after.access {
+            Some(DataAccess::Read { address, .. }) => write!(f, " (rd {address})")?,
+            Some(DataAccess::Write { address, .. }) => write!(f, " (wr {address})")?,
+            None => {}
+        }
+        if let Some(fetch) = self.after.fetch {
+            write!(f, " (fetch {})", fetch.address)?;
+        }
+        Ok(())
     }
-    Ok(())
-}
-
-// Adds what was begun.
-fn add_begun(text: &mut String, heap: Global, after: &State) -> Result<(), AllocError> {
-    let begun = match after.access {
-        Some(DataAccess::Read { address, mpc: _ }) => format!(in heap; " (rd {address})")?,
-        Some(
-            DataAccess::Write {
-                address,
-                mpc: _,
-                word: _,
-            },
-        ) => format!(in heap; " (wr {address})")?,
-        None => String::new(heap),
-    };
-    text.push_str(begun.as_str())?;
-    if let Some(fetch) = after.fetch {
-        let address = fetch.address;
-        let begun = format!(in heap; " (fetch {address})")?;
-        text.push_str(begun.as_str())?;
-    }
-    Ok(())
-}
-
-// The registers and the word that changed, then what is under way now.
-pub fn changes(heap: Global, before: &State, after: &State) -> Result<String, AllocError> {
-    let mut text = String::new(heap);
-    add_registers(&mut text, heap, before, after)?;
-    if before.mbr != after.mbr {
-        let byte = after.mbr;
-        let change = format!(in heap; " MBR={byte}")?;
-        text.push_str(change.as_str())?;
-    }
-    add_write(&mut text, heap, before)?;
-    add_begun(&mut text, heap, after)?;
-    Ok(text)
 }

@@ -2,6 +2,7 @@
 #![tactic(auto)]
 
 mod changes;
+mod error;
 mod labels;
 mod method;
 mod report;
@@ -13,17 +14,16 @@ use std::io::{BufRead, BufReader};
 
 // The number of turns that a line asks for: 1 to 127.
 fn turns_in(line: &str) -> Option<u8> {
-    match line.trim().parse::<u8>() {
-        Ok(turns) if turns >= 1 && turns <= 127 => Some(turns),
-        _ => None,
-    }
+    line.trim()
+        .parse()
+        .ok()
+        .filter(|turns| (1..=127).contains(turns))
 }
 
 fn main(rt: HostRuntime) -> anyhow::Result<()> {
     let heap = rt.alloc();
     let mut line = String::new(heap);
-    // what is no text holds no number
-    let _ = BufReader::new(heap, rt.stdin())?.read_line(&mut line);
+    BufReader::new(heap, rt.stdin())?.read_line(&mut line)?;
     match turns_in(line.as_str()) {
         Some(turns) => {
             let performed = trace(&rt, turns)?;

@@ -1,69 +1,50 @@
 // Where the cycles of the loop come from.
-use crate::method::mnemonic;
+use crate::method::{BEHIND, HEAD};
 use crate::run::Performed;
-use std::alloc::{AllocError, Global};
+use std::fmt;
 
-// The byte address at which each turn of the loop begins, and the one behind the loop.
-const HEAD: u32 = 12;
+// Instructions, displayed as the sum of their cycles.
+#[derive(Clone, Copy)]
+struct Sum<'a>(&'a [Performed]);
 
-const BEHIND: u32 = 30;
-
-// Adds a number to a sum that is written out.
-fn add_term(text: &mut String, heap: Global, cycles: u64) -> Result<(), AllocError> {
-    let term = if text.is_empty() {
-        format!(in heap; "{cycles}")?
-    } else {
-        format!(in heap; " + {cycles}")?
-    };
-    text.push_str(term.as_str())
+impl Sum<'_> {
+    fn value(&self) -> u64 {
+        self.0
+            .iter()
+            .fold(0, |sum: u64, done| sum.wrapping_add(done.cycles))
+    }
 }
 
-// The instructions of the first turn, a line each.
-fn first_turn(rt: &HostRuntime, performed: &[Performed]) -> anyhow::Result<()> {
-    let mut inside = false;
-    for done in performed {
-        if done.address == HEAD {
-            if inside {
-                return Ok(());
+impl fmt::Display for Sum<'_> {
+    fn fmt<W: fmt::Write>(&self, f: &mut fmt::Formatter<W>) -> fmt::Result {
+        for (place, done) in self.0.iter().enumerate() {
+            if place > 0 {
+                write!(f, " + ")?;
             }
-            inside = true;
+            write!(f, "{}", done.cycles)?;
         }
-        if done.address == BEHIND {
-            return Ok(());
-        }
-        if inside {
-            let name = mnemonic(done.opcode);
-            let address = done.address;
-            let cycles = done.cycles;
-            println!(rt; "  {address} {name} {cycles}")?;
-        }
+        write!(f, " = {}", self.value())
     }
-    Ok(())
+}
+
+// Whether an instruction begins a turn, or what is behind the loop.
+fn begins(done: &Performed) -> bool {
+    done.address == HEAD || done.address == BEHIND
 }
 
 // Each turn's sum, and all cycles.
-pub fn report(rt: &HostRuntime, performed: &[Performed]) -> anyhow::Result<()> {
-    let heap = rt.alloc();
+pub fn report<R: Print + AllocGlobal>(rt: &R, performed: &[Performed]) -> anyhow::Result<()> {
+    let turns = performed
+        .chunk_by(|_, next| !begins(next))
+        .filter(|part| part.first().is_some_and(|done| done.address == HEAD))
+        .collect::<Vec<&[Performed]>>(rt.alloc())?;
     println!(rt; "the first turn of the loop: address, instruction, cycles")?;
-    first_turn(rt, performed)?;
-    let mut text = String::new(heap);
-    let mut sum: u64 = 0;
-    let mut total: u64 = 0;
-    let mut turn: u64 = 0;
-    for done in performed {
-        if done.address == HEAD || done.address == BEHIND {
-            if turn > 0 {
-                let terms = text.as_str();
-                println!(rt; "turn {turn}: {terms} = {sum}")?;
-            }
-            turn = turn.wrapping_add(1);
-            text = String::new(heap);
-            sum = 0;
-        }
-        add_term(&mut text, heap, done.cycles)?;
-        sum = sum.wrapping_add(done.cycles);
-        total = total.wrapping_add(done.cycles);
+    for done in turns.first().copied().unwrap_or_default() {
+        println!(rt; "  {} {} {}", done.address, done.opcode, done.cycles)?;
     }
-    println!(rt; "in all: {total}")?;
+    for (number, turn) in (1u64..).zip(turns) {
+        println!(rt; "turn {number}: {}", Sum(turn))?;
+    }
+    println!(rt; "in all: {}", Sum(performed).value())?;
     Ok(())
 }

@@ -1,7 +1,8 @@
 // The method on the machine, cycle by cycle.
-use crate::changes::changes;
+use crate::changes::Changes;
+use crate::error::TraceError;
 use crate::labels::label;
-use crate::method::{method_words, mnemonic};
+use crate::method::{MARK, Opcode, method_words};
 use control::{ControlStore, Registers};
 use datapath::{Datapath, State};
 use memory::{Memory, WordMemory};
@@ -10,58 +11,56 @@ use microprogram::published_store;
 // The line at which each instruction begins.
 const MAIN1: u16 = 0x100;
 
-const IRETURN: u8 = 0xAC;
+// More cycles than any instruction takes, and more instructions than the method takes for any number of turns.
+const MOST_CYCLES: u64 = 100;
 
-// The mark: main's local variable frame begins there.
-const MARK: u32 = 9;
+const MOST_INSTRUCTIONS: u32 = 2000;
 
 // An instruction that was performed: where it stood, which it was, and its cycles.
-#[derive(Clone, Copy)]
+#[derive(Clone, Copy, Debug, PartialEq, Eq)]
 pub struct Performed {
     pub address: u32,
-    pub opcode: u8,
+    pub opcode: Opcode,
     pub cycles: u64,
 }
 
 // Whether main is about to return.
 fn ends(state: &State) -> bool {
-    state.mpc == MAIN1 && state.mbr == IRETURN && state.registers.lv == MARK
+    state.mpc == MAIN1 && Opcode(state.mbr) == Opcode::IRETURN && state.registers.lv == MARK
 }
 
-// One instruction, each of its cycles printed; none where the memory refuses an access.
+// One instruction, each of its cycles printed.
 fn instruction<M: Memory>(
-    rt: &HostRuntime,
+    rt: &impl Print,
     machine: &mut Datapath<M>,
     store: &ControlStore,
-) -> anyhow::Result<Option<Performed>> {
+) -> anyhow::Result<Performed> {
     let start = machine.state();
-    for done in 0..100u64 {
+    for cycles in 1..=MOST_CYCLES {
         let before = machine.state();
-        if machine.cycle(store).is_err() {
-            return Ok(None);
-        }
+        machine.cycle(store).map_err(|_| TraceError::Refused)?;
         let after = machine.state();
         let number = after.counter;
         let line = label(before.mpc);
-        let changed = changes(rt.alloc(), &before, &after)?;
-        println!(rt; "{number} {line}:{changed}")?;
+        let changes = Changes { before, after };
+        println!(rt; "{number} {line}:{changes}")?;
         if after.mpc == MAIN1 {
-            return Ok(Some(Performed {
+            return Ok(Performed {
                 address: start.registers.pc,
-                opcode: start.mbr,
-                cycles: done + 1,
-            }));
+                opcode: Opcode(start.mbr),
+                cycles,
+            });
         }
     }
-    Ok(None)
+    Err(TraceError::TooLong.into())
 }
 
 // The whole method, up to main's return: what was performed.
-pub fn trace(rt: &HostRuntime, turns: u8) -> anyhow::Result<Vec<Performed>> {
+pub fn trace<R: Print + AllocGlobal>(rt: &R, turns: u8) -> anyhow::Result<Vec<Performed>> {
     let mut performed = Vec::new(rt.alloc());
     let mut words = method_words(turns);
     let mut memory = WordMemory::make(&mut words);
-    let _ = memory.protect(MARK);
+    memory.protect(MARK).map_err(|_| TraceError::Unprotected)?;
     let registers = Registers {
         h: 0,
         opc: 0,
@@ -73,20 +72,16 @@ pub fn trace(rt: &HostRuntime, turns: u8) -> anyhow::Result<Vec<Performed>> {
         mdr: 0,
         mar: 0,
     };
-    let mut machine = Datapath::power(memory, registers, 0x10, MAIN1);
+    let mut machine = Datapath::power(memory, registers, Opcode::BIPUSH.0, MAIN1);
     let store = published_store();
-    for _ in 0..2000 {
+    for _ in 0..MOST_INSTRUCTIONS {
         if ends(&machine.state()) {
-            break;
+            return Ok(performed);
         }
-        let Some(done) = instruction(rt, &mut machine, &store)? else {
-            break;
-        };
-        let name = mnemonic(done.opcode);
-        let cycles = done.cycles;
+        let done = instruction(rt, &mut machine, &store)?;
         let total = machine.state().counter;
-        println!(rt; "{name}: {cycles} cycles, {total} in all")?;
+        println!(rt; "{}: {} cycles, {total} in all", done.opcode, done.cycles)?;
         performed.push(done)?;
     }
-    Ok(performed)
+    Err(TraceError::TooLong.into())
 }
