@@ -14,16 +14,12 @@ use Rattle.ijvm.specs.Machine.{Ijvm, byte_at, short_at, in_code, is_variable, li
 use Rattle.ijvm.specs.Table.{row_of, shape_of, variable_of, next_pc}
 use Rattle.ijvm.specs.Opcodes.{Entry, entries, find, opcode_of}
 use Rattle.ijvm.specs.Step.{wide_of, case_of, callable, has_variable, was_called, lands_in, Check, checks_of, checked, first_refusal, allowed_of, unless_refused, checked_case, step_of}
+use Rattle.ijvm.proofs.Pairs.{◌⨾◌}
 use Rattle.ijvm.specs.Applies.{Condition, InPool, Callable, VariableAt, HasVariable, WasCalled, LandsIn, Allowed, Applies, PerformedWhereItApplies}
 
 -- A refusal is no success.
 pub not_ok : {A : Type 0} (r : StepRefusal) (a : A) → Err r ≡ Ok a → ⊥
 not_ok r a e = let z : ◌≡◌ {A = ℕ} 0 1 = cc in omega arith
-
--- Proofs of the facts about each member of a list, one after the other.
-infixr 5 ◌⨾◌
-abbrev ◌⨾◌ : {P Q : Type 0} → P → Q → P × Q
-p ⨾ q = (p, q)
 
 -- A test is true exactly where a fact holds.
 pub record Tests (test : Bool) (Fact : Type 0) : Type 0 where

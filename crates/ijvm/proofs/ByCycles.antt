@@ -17,11 +17,11 @@ use Rattle.ijvm.specs.Machine.{byte_of}
 
 -- A number in a form of the prover's choice, where it is asked for; a flag likewise.
 abbrev Value : Bool → ℕ → (ℕ → Type 0) → Type 0
-Value true x P = (y : ℕ) × (x ≡ y) × P y
+Value true x P = (y : ℕ) × ((x ≡ y) × P y)
 Value false x P = P x
 
 abbrev Flag : Bool → Bool → (Bool → Type 0) → Type 0
-Flag true x P = (y : Bool) × (x ≡ y) × P y
+Flag true x P = (y : Bool) × ((x ≡ y) × P y)
 Flag false x P = P x
 
 -- The same number, with its computation forgotten.
@@ -52,19 +52,19 @@ BegunFetch false pc mpc P = P None
 -- The byte that a fetch brings, and what the data access brings and leaves: each access is one that the memory takes.
 abbrev Fetched : Option FetchAccess → Meaning → (Option ℕ → Type 0) → Type 0
 Fetched None m P = P None
-Fetched (Some f) m P = (b : ℕ) × (f.address / 4 < size_of m) × (byte_of m.words f.address ≡ b) × P (Some b)
+Fetched (Some f) m P = (b : ℕ) × ((f.address / 4 < size_of m) × ((byte_of m.words f.address ≡ b) × P (Some b)))
 
 abbrev Accessed : Option DataAccess → Meaning → (Option ℕ → Meaning → Type 0) → Type 0
 Accessed None m P = P None m
-Accessed (Some (Reading a mpc)) m P = (v : ℕ) × (a < size_of m) × (get_or m.words a 0 ≡ v) × P (Some v) m
-Accessed (Some (Writing a mpc v)) m P = (a < size_of m) × (m.mark ≤ a) × P None (record { words = set m.words a v; mark = m.mark })
+Accessed (Some (Reading a mpc)) m P = (v : ℕ) × ((a < size_of m) × ((get_or m.words a 0 ≡ v) × P (Some v) m))
+Accessed (Some (Writing a mpc v)) m P = (a < size_of m) × ((m.mark ≤ a) × P None (record { words = set m.words a v; mark = m.mark }))
 
 value : (b : Bool) (x : ℕ) (P : ℕ → Type 0) → Value b x P → P x
-value true x P (y, e, p) = subst P (sym e) p
+value true x P (y, (e, p)) = subst P (sym e) p
 value false x P p = p
 
 flag : (b : Bool) (x : Bool) (P : Bool → Type 0) → Flag b x P → P x
-flag true x P (y, e, p) = subst P (sym e) p
+flag true x P (y, (e, p)) = subst P (sym e) p
 flag false x P p = p
 
 literal : (n : ℕ) (P : ℕ → Type 0) → Literal n P → P n
@@ -92,13 +92,13 @@ begins_fetch false pc mpc P p = p
 fetches : (f : Option FetchAccess) (m : Meaning) (P : Option ℕ → Type 0) → Fetched f m P → (b : Option ℕ) × (fetched_of m f ≡ Ok b) × P b
 unfolding byte_of
 fetches None m P p = (None, refl, p)
-fetches (Some f) m P (b, lt, e, p) = (Some b, rw (lt-leb _ _ lt, e), p)
+fetches (Some f) m P (b, (lt, (e, p))) = (Some b, rw (lt-leb _ _ lt, e), p)
 
 accesses : (d : Option DataAccess) (m : Meaning) (P : Option ℕ → Meaning → Type 0) → Accessed d m P
     → (b : Option ℕ) × (n : Meaning) × (accessed_of m d ≡ Ok b) × (completed_of m d ≡ n) × P b n
 accesses None m P p = (None, m, refl, refl, p)
-accesses (Some (Reading a mpc)) m P (v, lt, e, p) = (Some v, m, rw (lt-leb _ _ lt, e), refl, p)
-accesses (Some (Writing a mpc v)) m P (lt, le, p) = (None, _, rw (lt-leb _ _ lt, le-ltb _ _ le), rw (lt-leb _ _ lt, le-ltb _ _ le), p)
+accesses (Some (Reading a mpc)) m P (v, (lt, (e, p))) = (Some v, m, rw (lt-leb _ _ lt, e), refl, p)
+accesses (Some (Writing a mpc v)) m P (lt, (le, p)) = (None, _, rw (lt-leb _ _ lt, le-ltb _ _ le), rw (lt-leb _ _ lt, le-ltb _ _ le), p)
 
 -- The machine after a cycle of the control word w, with c on the C bus, the next MPC, what arrived, and the memory then.
 abbrev pub landed : ControlWord → State → (c next : ℕ) → (byte word : Option ℕ) → Meaning → Micro

@@ -11,6 +11,7 @@ use Rattle.ijvm.specs.Machine.{Ijvm, word_at, byte_of, byte_at, link_of, base_of
 use Rattle.ijvm.specs.Table.{effect_of}
 use Rattle.ijvm.specs.Applies.{Applies}
 use Rattle.ijvm.specs.Stands.{Stands, Takes}
+use Rattle.ijvm.proofs.Pairs.{◌⨾◌}
 use Rattle.ijvm.proofs.Bytes.{byte_below}
 use Rattle.ijvm.proofs.ByCycles.{Cycles}
 use Rattle.ijvm.proofs.LaidOut.{LaidOut}
@@ -21,61 +22,21 @@ unfolding published held address listing word
 ireturn_runs s m so st f =
     let link : ℕ = link_of s in
     let t : m.state.registers.tos ≡ top_of s = st.same_top (omega arith) in
-    takes 7 s (effect_of Ireturn s) m 0xac st f.0 (omega arith) (
-      s.lv,
-      refl,
-      (
-        _,
-        omega arith,
-        refl,
-        (
-          link,
-          omega arith,
-          refl,
-          (
-            link,
-            refl,
-            (
-              link + 1,
-              omega arith,
-              (
-                _,
-                omega arith,
-                refl,
-                (
-                  word_at s link,
-                  refl,
-                  (
-                    s.lv,
-                    refl,
-                    (
-                      _,
-                      omega arith,
-                      refl,
-                      (
-                        _,
-                        omega arith,
-                        refl,
-                        (
-                          word_at s (link + 1),
-                          refl,
-                          (
-                            top_of s,
-                            t,
-                            stood refl refl refl refl refl refl (sym (byte_set _ _ _ _ (omega arith))) refl (omega arith) refl
-                                (λ _. t ∙ sym (get_or-set_same s.words s.lv _ 0 (omega arith))),
-                          ),
-                        ),
-                      ),
-                    ),
-                  ),
-                ),
-              ),
-            ),
-          ),
-        ),
-      ),
-    )
+    takes 7 s (effect_of Ireturn s) m 0xac st f.0 (omega arith)
+    (s.lv ⨾ refl
+    ⨾ _ ⨾ omega arith ⨾ refl
+    ⨾ link ⨾ omega arith ⨾ refl
+    ⨾ link ⨾ refl
+    ⨾ link + 1 ⨾ omega arith
+    ⨾ _ ⨾ omega arith ⨾ refl
+    ⨾ word_at s link ⨾ refl
+    ⨾ s.lv ⨾ refl
+    ⨾ _ ⨾ omega arith ⨾ refl
+    ⨾ _ ⨾ omega arith ⨾ refl
+    ⨾ word_at s (link + 1) ⨾ refl
+    ⨾ top_of s ⨾ t
+    ⨾ stood refl refl refl refl refl refl (sym (byte_set _ _ _ _ (omega arith))) refl (omega arith) refl
+    (λ _. t ∙ sym (get_or-set_same s.words s.lv _ 0 (omega arith))))
 
 -- A call, from its bytes by name: the disp, the method's address, its params and its locals.
 module _ (s : Ijvm) (m : Micro) (so : LaidOut s) (d₁ d₂ mm p₁ p₂ l₁ l₂ : ℕ)
@@ -116,147 +77,41 @@ module _ (s : Ijvm) (m : Micro) (so : LaidOut s) (d₁ d₂ mm p₁ p₂ l₁ l�
         let lt : fr < length s.words = omega arith in
         let linked : get_or ws₃ fr 0 ≡ li =
         rw (get_or-set_other ws₂ (li + 1) fr s.lv 0 ne₂, get_or-set_other ws₁ li fr (s.pc + 3) 0 ne₁, get_or-set_same s.words fr li 0 lt)
-        in (
-          s.pc + 1 + 1,
-          omega arith,
-          (
-            d₁,
-            omega arith,
-            d₁-is,
-            (
-              d₁ * 256,
-              omega arith,
-              (
-                d₂,
-                omega arith,
-                d₂-is,
-                (
-                  d₁ * 256 + d₂,
-                  or_shifted d₁ 8 d₂ d₂<,
-                  (
-                    s.cpp + (d₁ * 256 + d₂),
-                    omega arith,
-                    (
-                      s.pc + 3,
-                      omega arith,
-                      (
-                        mm,
-                        omega arith,
-                        mm-is,
-                        (
-                          mm,
-                          refl,
-                          (
-                            mm + 1,
-                            omega arith,
-                            (
-                              p₁,
-                              omega arith,
-                              p₁-is,
-                              (
-                                p₁ * 256,
-                                omega arith,
-                                (
-                                  p₂,
-                                  omega arith,
-                                  p₂-is,
-                                  (
-                                    p₁ * 256 + p₂,
-                                    or_shifted p₁ 8 p₂ p₂<,
-                                    (
-                                      mm + 2,
-                                      omega arith,
-                                      (
-                                        s.sp - (p₁ * 256 + p₂),
-                                        omega arith,
-                                        (
-                                          l₁,
-                                          omega arith,
-                                          l₁-is,
-                                          (
-                                            fr,
-                                            omega arith,
-                                            (
-                                              mm + 2 + 1,
-                                              omega arith,
-                                              (
-                                                l₁ * 256,
-                                                omega arith,
-                                                (
-                                                  l₂,
-                                                  omega arith,
-                                                  l₂-is,
-                                                  (
-                                                    l₁ * 256 + l₂,
-                                                    or_shifted l₁ 8 l₂ l₂<,
-                                                    (
-                                                      li,
-                                                      omega arith,
-                                                      (
-                                                        li,
-                                                        refl,
-                                                        (
-                                                          omega arith,
-                                                          omega arith,
-                                                          (
-                                                            s.pc + 3,
-                                                            refl,
-                                                            (
-                                                              li + 1,
-                                                              omega arith,
-                                                              (
-                                                                omega arith,
-                                                                omega arith,
-                                                                (
-                                                                  s.lv,
-                                                                  refl,
-                                                                  (
-                                                                    mm + 4,
-                                                                    omega arith,
-                                                                    (
-                                                                      omega arith,
-                                                                      omega arith,
-                                                                      (
-                                                                        fr,
-                                                                        refl,
-                                                                        (
-                                                                          byte_of ws₃ (mm + 4),
-                                                                          omega arith,
-                                                                          refl,
-                                                                          stood refl refl refl refl refl refl refl refl tt refl (λ (h : base_of called + 1 ≤ li + 1). absurd (omega (arith, linked))),
-                                                                        ),
-                                                                      ),
-                                                                    ),
-                                                                  ),
-                                                                ),
-                                                              ),
-                                                            ),
-                                                          ),
-                                                        ),
-                                                      ),
-                                                    ),
-                                                  ),
-                                                ),
-                                              ),
-                                            ),
-                                          ),
-                                        ),
-                                      ),
-                                    ),
-                                  ),
-                                ),
-                              ),
-                            ),
-                          ),
-                        ),
-                      ),
-                    ),
-                  ),
-                ),
-              ),
-            ),
-          ),
-        )
+        in
+        (s.pc + 1 + 1 ⨾ omega arith
+        ⨾ d₁ ⨾ omega arith ⨾ d₁-is
+        ⨾ d₁ * 256 ⨾ omega arith
+        ⨾ d₂ ⨾ omega arith ⨾ d₂-is
+        ⨾ d₁ * 256 + d₂ ⨾ or_shifted d₁ 8 d₂ d₂<
+        ⨾ s.cpp + (d₁ * 256 + d₂) ⨾ omega arith
+        ⨾ s.pc + 3 ⨾ omega arith
+        ⨾ mm ⨾ omega arith ⨾ mm-is
+        ⨾ mm ⨾ refl
+        ⨾ mm + 1 ⨾ omega arith
+        ⨾ p₁ ⨾ omega arith ⨾ p₁-is
+        ⨾ p₁ * 256 ⨾ omega arith
+        ⨾ p₂ ⨾ omega arith ⨾ p₂-is
+        ⨾ p₁ * 256 + p₂ ⨾ or_shifted p₁ 8 p₂ p₂<
+        ⨾ mm + 2 ⨾ omega arith
+        ⨾ s.sp - (p₁ * 256 + p₂) ⨾ omega arith
+        ⨾ l₁ ⨾ omega arith ⨾ l₁-is
+        ⨾ fr ⨾ omega arith
+        ⨾ mm + 2 + 1 ⨾ omega arith
+        ⨾ l₁ * 256 ⨾ omega arith
+        ⨾ l₂ ⨾ omega arith ⨾ l₂-is
+        ⨾ l₁ * 256 + l₂ ⨾ or_shifted l₁ 8 l₂ l₂<
+        ⨾ li ⨾ omega arith
+        ⨾ li ⨾ refl
+        ⨾ omega arith ⨾ omega arith
+        ⨾ s.pc + 3 ⨾ refl
+        ⨾ li + 1 ⨾ omega arith
+        ⨾ omega arith ⨾ omega arith
+        ⨾ s.lv ⨾ refl
+        ⨾ mm + 4 ⨾ omega arith
+        ⨾ omega arith ⨾ omega arith
+        ⨾ fr ⨾ refl
+        ⨾ byte_of ws₃ (mm + 4) ⨾ omega arith ⨾ refl
+        ⨾ stood refl refl refl refl refl refl refl refl tt refl (λ (h : base_of called + 1 ≤ li + 1). absurd (omega (arith, linked))))
 
 -- TOS holds the new LV then, and the called method's operand stack is empty.
 pub invoke_runs : (s : Ijvm) (m : Micro) → LaidOut s → Stands m s → Applies Invokevirtual s → Takes 23 m (effect_of Invokevirtual s)

@@ -1,3 +1,4 @@
+pub mod Pairs
 pub mod Applied
 pub mod Bytes
 pub mod Steady

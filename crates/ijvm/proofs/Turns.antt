@@ -12,6 +12,7 @@ use Rattle.ijvm.specs.Stands.{Takes}
 use Rattle.ijvm.specs.Sound.{Sound}
 use Rattle.ijvm.specs.Performed.{Performs, total}
 use Rattle.ijvm.specs.Summing.{program, summing, head, turn, one_lower, last_turn, loop, up_to, method, start, finish, TakesOnTheMic1, ATurnTakes, TheLoopTakes, TheMethodTakes, MethodAnswer}
+use Rattle.ijvm.proofs.Pairs.{◌⨾◌}
 use Rattle.ijvm.proofs.Applied.{step_of_lem}
 use Rattle.ijvm.proofs.Lists.{performs_both}
 use Rattle.ijvm.proofs.EveryCase.{performed_takes}
@@ -28,40 +29,26 @@ module _ (n : ℕ) (rest : List ℕ) where
   unfolding byte_of
   begins count sum first second =
       let sum' = (sum + count) % 2 ^ 32 in
-      let count' = one_lower count in (
-        step_of_lem Iload (at 12 13 count sum first second) (refl, tt, (omega arith, tt, tt, omega arith, omega arith, tt, omega arith, omega arith)),
-        (
-          step_of_lem Iload (at 14 14 count sum sum second) (refl, tt, (omega arith, tt, tt, omega arith, omega arith, tt, omega arith, omega arith)),
-          (
-            step_of_lem Iadd (at 16 15 count sum sum count) (refl, tt, (omega arith, tt, tt, omega arith, tt, tt, omega arith, omega arith)),
-            (
-              step_of_lem Istore (at 17 14 count sum sum' count) (refl, tt, (omega arith, tt, tt, omega arith, omega arith, tt, omega arith, omega arith)),
-              (
-                step_of_lem Iinc (at 19 13 count sum' sum' count) (refl, tt, (omega arith, tt, tt, omega arith, omega arith, tt, omega arith, omega arith)),
-                (
-                  step_of_lem Iload (at 22 13 count' sum' sum' count) (refl, tt, (omega arith, tt, tt, omega arith, omega arith, tt, omega arith, omega arith)),
-                  refl,
-                ),
-              ),
-            ),
-          ),
-        ),
-      )
+      let count' = one_lower count in
+      step_of_lem Iload (at 12 13 count sum first second) (omega arith)
+      ⨾ step_of_lem Iload (at 14 14 count sum sum second) (omega arith)
+      ⨾ step_of_lem Iadd (at 16 15 count sum sum count) (omega arith)
+      ⨾ step_of_lem Istore (at 17 14 count sum sum' count) (omega arith)
+      ⨾ step_of_lem Iinc (at 19 13 count sum' sum' count) (omega arith)
+      ⨾ step_of_lem Iload (at 22 13 count' sum' sum' count) (omega arith)
+      ⨾ refl
 
   goes_on : (count sum second : ℕ) → count ≢ 0 → Performs (IfeqFalls ∷ (Goto ∷ [])) (at 24 14 count sum count second) (at 12 13 count sum count second)
   unfolding byte_of
-  goes_on count sum second ne = (
-    step_of_lem IfeqFalls (at 24 14 count sum count second) (refl, ne, (omega arith, tt, tt, omega arith, tt, tt, omega arith, omega arith)),
-    (
-      step_of_lem Goto (at 27 13 count sum count second) (refl, tt, (omega arith, tt, tt, omega arith, tt, tt, omega arith, omega arith)),
-      refl,
-    ),
-  )
+  goes_on count sum second ne =
+      step_of_lem IfeqFalls (at 24 14 count sum count second) (omega arith)
+      ⨾ step_of_lem Goto (at 27 13 count sum count second) (omega arith)
+      ⨾ refl
 
   leaves : (sum second : ℕ) → Performs (IfeqTaken ∷ []) (at 24 14 0 sum 0 second) (at 30 13 0 sum 0 second)
   unfolding byte_of
   leaves sum second =
-      (step_of_lem IfeqTaken (at 24 14 0 sum 0 second) (refl, refl, (omega arith, tt, tt, omega arith, tt, tt, omega arith, omega arith)), refl)
+      step_of_lem IfeqTaken (at 24 14 0 sum 0 second) (omega arith) ⨾ refl
 
   a_turn : (count sum first second : ℕ) → count < 2 ^ 32 → count ≢ 1
       → Performs turn (at 12 13 count sum first second) (at 12 13 (one_lower count) ((sum + count) % 2 ^ 32) (one_lower count) count)
@@ -102,26 +89,21 @@ module _ (n : ℕ) (rest : List ℕ) where
       let high : (0x10003601 + n * 2 ^ 16) / 2 ^ 24 ≡ 0x10 = omega arith in
       let middle : (0x10003601 + n * 2 ^ 16) / 2 ^ 8 ≡ 0x100036 + n * 2 ^ 8 = omega arith in
       let b₇ : byte_of (program n) 7 ≡ 1 = omega arith in
-      let last : Performs (Bipush ∷ (Istore ∷ [])) (at 8 13 n 0 n 0) (at 12 13 n 0 0 0) = (
-        step_of_lem Bipush (at 8 13 n 0 n 0) (refl, tt, (omega arith, tt, tt, omega arith, tt, tt, omega arith, omega arith)),
-        (
-          step_of_lem Istore (at 10 14 n 0 0 0) (refl, tt, (omega arith, tt, tt, omega arith, omega arith, tt, omega arith, omega arith)),
-          refl,
-        ),
-      )
+      let last : Performs (Bipush ∷ (Istore ∷ [])) (at 8 13 n 0 n 0) (at 12 13 n 0 0 0) =
+      step_of_lem Bipush (at 8 13 n 0 n 0) (omega arith)
+      ⨾ step_of_lem Istore (at 10 14 n 0 0 0) (omega arith)
+      ⨾ refl
       in
-      let from-6 : Performs (Istore ∷ (Bipush ∷ (Istore ∷ []))) (at 6 14 0 0 n 0) (at 12 13 n 0 0 0) = (
-        step_of_lem Istore (at 6 14 0 0 n 0) (omega (arith, middle), tt, (omega arith, tt, tt, omega arith, omega arith, tt, omega arith, omega arith)),
-        subst (λ s. Performs (Bipush ∷ (Istore ∷ [])) s (at 12 13 n 0 0 0)) (sym (stored small)) last,
-      )
-      in (
-        step_of_lem Bipush (at 4 13 0 0 0 0) (rw high, tt, (omega arith, tt, tt, omega arith, tt, tt, omega arith, omega arith)),
-        subst (λ s. Performs (Istore ∷ (Bipush ∷ (Istore ∷ []))) s (at 12 13 n 0 0 0)) (sym (pushed small)) from-6,
-      )
+      let from-6 : Performs (Istore ∷ (Bipush ∷ (Istore ∷ []))) (at 6 14 0 0 n 0) (at 12 13 n 0 0 0) =
+      step_of_lem Istore (at 6 14 0 0 n 0) (omega (arith, middle))
+      ⨾ subst (λ s. Performs (Bipush ∷ (Istore ∷ [])) s (at 12 13 n 0 0 0)) (sym (stored small)) last
+      in
+      step_of_lem Bipush (at 4 13 0 0 0 0) (omega (arith, high))
+      ⨾ subst (λ s. Performs (Istore ∷ (Bipush ∷ (Istore ∷ []))) s (at 12 13 n 0 0 0)) (sym (pushed small)) from-6
 
   epilogue : (sum : ℕ) → Performs (Iload ∷ []) (at 30 13 0 sum 0 1) (at 32 14 0 sum sum 1)
   unfolding byte_of
-  epilogue sum = (step_of_lem Iload (at 30 13 0 sum 0 1) (refl, tt, (omega arith, tt, tt, omega arith, omega arith, tt, omega arith, omega arith)), refl)
+  epilogue sum = step_of_lem Iload (at 30 13 0 sum 0 1) (omega arith) ⨾ refl
 
   ended : (sum : ℕ) → step_of (at 32 14 0 sum sum 1) ≡ Err End
   unfolding step_of byte_of

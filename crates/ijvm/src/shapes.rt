@@ -47,7 +47,7 @@ pub struct Shape {
     pub way: Way,
 }
 
-// The same, by its columns.
+// A row by its columns: as literals the 24 rows would take eight lines each.
 fn row(
     bytes: u8,
     pool: bool,
