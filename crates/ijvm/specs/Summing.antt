@@ -67,6 +67,7 @@ up_to zero = 0
 up_to (suc n) = suc n + up_to n
 
 -- For any count k + 1 from 1 to 2^32 - 1 and any sum: k turns that go round and the last one, so many cycles in all. Neither the sum nor the numbers that are added matter.
+-- The parts: the entries in all, what is performed, and that on the Mic-1. (No record: a search would open it, and not find the parts.)
 unfoldable pub TheLoopTakes : (k cycles : ℕ) → Type 0
 TheLoopTakes k cycles =
     (total (loop k) ≡ cycles)
