@@ -154,8 +154,8 @@ called_since start t cases before since rest l r e o =
 level : (s v : Ijvm) (n : ℕ) (since : List Case) → 0 + calls since ≡ n + returns since → calls since ≡ returns since → Within s n v → Within s 0 v
 level s v n since b e w = let z : n ≡ 0 = omega arith in subst (λ (k : ℕ). Within s k v) z w
 
-pub calls_nest_lem : (cases : List Case) → CallsNest cases
-calls_nest_lem cases start t l r =
+pub any_calls_nest : (cases : List Case) → CallsNest cases
+any_calls_nest cases start t l r =
     record {
       inside = λ before since rest e o. (called_since start t cases before since rest l r e o).ends.within.same;
       returned = λ before since rest e o z.

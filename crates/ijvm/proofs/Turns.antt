@@ -134,14 +134,15 @@ a_turn_takes = record {
   on_the_mic_1 = λ n count sum first second rest small ne. on_mic_1 turn _ _ (a_turn n rest count sum first second small ne) 51 refl;
 }
 
-pub the_loop_takes_lem : (k cycles : ℕ) → cycles ≡ 51 * k + 47 → TheLoopTakes k cycles
+pub every_loop_takes : (k cycles : ℕ) → cycles ≡ 51 * k + 47 → TheLoopTakes k cycles
 unfolding TheLoopTakes
-the_loop_takes_lem k cycles e =
-    let all : total (loop k) ≡ cycles = loop_total k ∙ sym e in (
-      all,
-      λ n sum first second rest. the_loop n rest k sum first second,
-      λ n sum first second rest small. on_mic_1 (loop k) _ _ (the_loop n rest k sum first second small) cycles all,
-    )
+every_loop_takes k cycles e =
+    let all : total (loop k) ≡ cycles = loop_total k ∙ sym e in
+    record {
+      in_all = all;
+      performs = λ n sum first second rest. the_loop n rest k sum first second;
+      on_the_mic_1 = λ n sum first second rest small. on_mic_1 (loop k) _ _ (the_loop n rest k sum first second small) cycles all;
+    }
 
 module _ (k : ℕ) (small : k + 1 ≤ 127) where
   one_off : k + 1 - 1 ≡ k

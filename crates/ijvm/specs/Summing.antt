@@ -67,14 +67,16 @@ up_to zero = 0
 up_to (suc n) = suc n + up_to n
 
 -- For any count k + 1 from 1 to 2^32 - 1 and any sum: k turns that go round and the last one, so many cycles in all. Neither the sum nor the numbers that are added matter.
--- The parts: the entries in all, what is performed, and that on the Mic-1. (No record: a search would open it, and not find the parts.)
+pub record LoopCost (k cycles : ℕ) : Type 0 where
+  pub in_all : total (loop k) ≡ cycles
+  pub performs : (n sum first second : ℕ) (rest : List ℕ) → k + 1 < 2 ^ 32
+      → Performs (loop k) (head n (k + 1) sum first second rest) (summing n 30 13 0 ((sum + up_to (k + 1)) % 2 ^ 32) 0 1 rest)
+  pub on_the_mic_1 : (n sum first second : ℕ) (rest : List ℕ) → k + 1 < 2 ^ 32
+      → TakesOnTheMic1 cycles (head n (k + 1) sum first second rest) (summing n 30 13 0 ((sum + up_to (k + 1)) % 2 ^ 32) 0 1 rest)
+
+-- The same as one fact, which a proof does not take apart unless it is told to.
 unfoldable pub TheLoopTakes : (k cycles : ℕ) → Type 0
-TheLoopTakes k cycles =
-    (total (loop k) ≡ cycles)
-    × ((n sum first second : ℕ) (rest : List ℕ) → k + 1 < 2 ^ 32
-    → Performs (loop k) (head n (k + 1) sum first second rest) (summing n 30 13 0 ((sum + up_to (k + 1)) % 2 ^ 32) 0 1 rest))
-    × ((n sum first second : ℕ) (rest : List ℕ) → k + 1 < 2 ^ 32
-    → TakesOnTheMic1 cycles (head n (k + 1) sum first second rest) (summing n 30 13 0 ((sum + up_to (k + 1)) % 2 ^ 32) 0 1 rest))
+TheLoopTakes = LoopCost
 
 -- The whole method: the count n is stored, the sum 0, then the loop, and the sum is pushed.
 abbrev pub method : ℕ → List Case

@@ -1,6 +1,9 @@
 // Why a step is refused, and the number of the refusal.
-ghost use Rattle.std.specs.Prelude.{◌≡◌};
-ghost use Rattle.ijvm.specs.Refusals.{step_number};
+ghost use Rattle.std.specs.Prelude.{◌≡◌, Some};
+ghost use Rattle.ijvm.specs.Refusals.{step_number, step_text};
+
+use std::error::Error;
+use std::fmt;
 
 #[derive(Clone, Copy, Debug, PartialEq, Eq)]
 pub enum StepRefusal {
@@ -27,9 +30,32 @@ pub enum StepRefusal {
 }
 
 impl StepRefusal {
+    // The number of the refusal.
     pub fn number(self) -> u32
         ensures { result ≡ step_number self }
     {
         self as u32
     }
 }
+
+impl fmt::Display for StepRefusal {
+    ghost output = { λ refusal. Some (step_text refusal) };
+
+    fn fmt<W: fmt::Write>(&self, f: &mut fmt::Formatter<W>) -> fmt::Result {
+        f.write_str(match self {
+            StepRefusal::OutsideCode => "refused 30: a byte of the instruction lies outside code",
+            StepRefusal::UnknownOpcode => "refused 31: no instruction has this opcode",
+            StepRefusal::TooShallow => "refused 32: the operand stack is not deep enough",
+            StepRefusal::NoVariable => "refused 33: the frame has no such variable",
+            StepRefusal::NotInPool => "refused 34: the index or disp is not below the pool count",
+            StepRefusal::WrongMethod =>
+                "refused 35: the method's code lies outside code, or it has no params",
+            StepRefusal::NoRoom => "refused 36: the new SP is not below size",
+            StepRefusal::NextOutside => "refused 37: the next PC lies outside code",
+            StepRefusal::End => "refused 38: main returns",
+            StepRefusal::NotLoaded => "refused 39: no program is loaded",
+        })
+    }
+}
+
+impl Error for StepRefusal {}

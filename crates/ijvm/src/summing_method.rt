@@ -35,7 +35,7 @@ fn added(cases: &[Case]) -> u64
 }
 
 // A loop that begins with the count k + 1, whatever its sum holds, takes 51 cycles for each of the k turns that go round, and 47 for the last.
-#[tactic(auto, using(crate::proofs::Turns::the_loop_takes_lem))]
+#[tactic(auto, using(crate::proofs::Turns::every_loop_takes))]
 pub fn the_loop_takes(k: u32) -> u64
     ensures count { result ≡ 51 * k + 47 }
     ensures turns { TheLoopTakes k result }

@@ -25,7 +25,7 @@ pub fn a_performed_case_leaves_a_sound_state(case: Case) -> Shape
 }
 
 // Calls nest, by the way that each case goes on: Way::Call opens a call, Way::Return closes one.
-#[tactic(auto, using(crate::proofs::Nested::calls_nest_lem))]
+#[tactic(auto, using(crate::proofs::Nested::any_calls_nest))]
 pub fn calls_nest(case: Case) -> Way
     ensures way { result ≡ (shape_of case).way }
     ensures nest { (cases : List Case) → CallsNest cases }

@@ -2,7 +2,6 @@
 #![tactic(auto)]
 
 mod changes;
-mod error;
 mod labels;
 mod method;
 mod report;
@@ -23,8 +22,9 @@ fn turns_in(line: &str) -> Option<u8> {
 fn main(rt: HostRuntime) -> anyhow::Result<()> {
     let heap = rt.alloc();
     let mut line = String::new(heap);
-    BufReader::new(heap, rt.stdin())?.read_line(&mut line)?;
-    match turns_in(line.as_str()) {
+    // what is no text holds no number
+    let read = BufReader::new(heap, rt.stdin())?.read_line(&mut line);
+    match read.ok().and_then(|_| turns_in(line.as_str())) {
         Some(turns) => {
             let performed = trace(&rt, turns)?;
             report(&rt, performed.as_slice())?;

@@ -1,8 +1,8 @@
 // The method on the machine, cycle by cycle.
 use crate::changes::Changes;
-use crate::error::TraceError;
 use crate::labels::label;
 use crate::method::{MARK, Opcode, method_words};
+use anyhow::bail;
 use control::{ControlStore, Registers};
 use datapath::{Datapath, State};
 use memory::{Memory, WordMemory};
@@ -38,7 +38,7 @@ fn instruction<M: Memory>(
     let start = machine.state();
     for cycles in 1..=MOST_CYCLES {
         let before = machine.state();
-        machine.cycle(store).map_err(|_| TraceError::Refused)?;
+        machine.cycle(store)?;
         let after = machine.state();
         let number = after.counter;
         let line = label(before.mpc);
@@ -52,7 +52,7 @@ fn instruction<M: Memory>(
             });
         }
     }
-    Err(TraceError::TooLong.into())
+    bail!("an instruction takes more than {MOST_CYCLES} cycles")
 }
 
 // The whole method, up to main's return: what was performed.
@@ -60,17 +60,13 @@ pub fn trace<R: Print + AllocGlobal>(rt: &R, turns: u8) -> anyhow::Result<Vec<Pe
     let mut performed = Vec::new(rt.alloc());
     let mut words = method_words(turns);
     let mut memory = WordMemory::make(&mut words);
-    memory.protect(MARK).map_err(|_| TraceError::Unprotected)?;
+    memory.protect(MARK)?;
     let registers = Registers {
-        h: 0,
-        opc: 0,
-        tos: 0,
         cpp: MARK,
         lv: MARK,
         sp: 13,
         pc: 4,
-        mdr: 0,
-        mar: 0,
+        ..Registers::default()
     };
     let mut machine = Datapath::power(memory, registers, Opcode::BIPUSH.0, MAIN1);
     let store = published_store();
@@ -83,5 +79,5 @@ pub fn trace<R: Print + AllocGlobal>(rt: &R, turns: u8) -> anyhow::Result<Vec<Pe
         println!(rt; "{}: {} cycles, {total} in all", done.opcode, done.cycles)?;
         performed.push(done)?;
     }
-    Err(TraceError::TooLong.into())
+    bail!("the method takes more than {MOST_INSTRUCTIONS} instructions")
 }
