@@ -61,7 +61,7 @@ fn row(signals: u8) -> Option<Function>
 }
 
 impl Function {
-    // The function of a control word, where its signals stand in the table.
+    // The function of a control word, where its signals stand in the table; that they do not is no error, so this is no TryFrom.
     pub fn of(word: &ControlWord) -> Option<Function>
         ensures { result ≡ function_of word.now }
     {

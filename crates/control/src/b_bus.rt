@@ -19,7 +19,7 @@ pub enum Source {
 }
 
 impl Source {
-    // The source that a code B names; 9 and above name none.
+    // The source that a code B names; 9 and above name none, which is no error, so this is no TryFrom.
     pub fn of(b: u8) -> Option<Source>
         ensures { result ≡ source_of b }
     {

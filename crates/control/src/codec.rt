@@ -69,6 +69,7 @@ fn check_flags(word: &ControlWord) -> Result<(), ControlRefusal>
     Ok(())
 }
 
+// A call of its own name and no TryFrom: its contract also promises the way back, and so does encode's.
 // The fields of a number; refused (7) for 2^36 or more, (8) for SLL8 with SRA1, (9) for WRITE with READ, in this order.
 pub fn decode(number: u64) -> Result<ControlWord, ControlRefusal>
     ensures value { result ≡ decode_of number }
@@ -93,7 +94,7 @@ fn flags(w: &ControlWord) -> [bool; 23]
     ]
 }
 
-// NEXT with the flags behind it.
+// NEXT with the flags behind it. A loop and no fold: of a fold's sum the library does not say that it fits 64 bits.
 fn joined(next: u16, flags: &[bool; 23]) -> u64
     requires { next < 512 }
     ensures value { result ≡ behind next flags.now }

@@ -1,4 +1,4 @@
-// A control word, by its fields.
+// A control word, by its fields: a bool for each bit and a number for NEXT and B, as the format has them, so that encode can refuse what is too wide.
 
 // Which registers the C bus loads.
 #[derive(Clone, Copy, Debug, Default, PartialEq, Eq)]

@@ -11,7 +11,7 @@ use crate::{Datapath, Fault, PowerRefusal, State};
 use control::{ControlStore, Registers};
 use memory::Memory;
 
-// Why power refuses an MPC (11), if it does.
+// Why power refuses an MPC (11), if it does. An Option, since it is the answer here and not a failure: power always gives a machine.
 pub fn power_refusal(mpc: u16) -> Option<PowerRefusal>
     ensures { result ≡ power_refusal_of mpc }
 {
@@ -55,7 +55,7 @@ impl<M: Memory> Datapath<M> {
         Ok(())
     }
 
-    // Up to n cycles; how many were done, and the fault of the one that stopped them.
+    // Up to n cycles; how many were done, and the fault of the one that stopped them. No Result: the cycles before a fault were done.
     #[tactic(auto, using(crate::proofs::Repeated::go_start, crate::proofs::Repeated::go_more))]
     pub fn go(&mut self, store: &ControlStore, n: u64) -> (u64, Option<Fault>)
         ensures done { result.0 ≡ (go_of (numbers_in store.now) n (micro_of M.Memory.meaning self.old)).done }

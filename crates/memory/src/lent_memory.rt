@@ -27,7 +27,7 @@ impl<'a, C: Cell> LentMemory<'a, C> {
         LentMemory { cells, mark: 0 }
     }
 
-    // Why make refuses the buffer (2, then 1), if it does.
+    // Why make refuses the buffer (2, then 1), if it does. An Option, since it is the answer here and not a failure: make always gives a memory.
     pub fn refusal(cells: &[C]) -> Option<MakeRefusal>
         ensures { result ≡ make_of C.PER_WORD (length cells.now) }
     {

@@ -18,6 +18,7 @@ pub use make_refusal::MakeRefusal;
 pub use protect_refusal::ProtectRefusal;
 
 // A list of words with a mark below which they are protected, in buffers that its maker lent.
+// That a call keeps the loan is said at each call: it is about two values, before and after, so no type can hold it.
 pub trait Memory {
     ghost meaning: { Self → Meaning };
 

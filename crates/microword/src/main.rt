@@ -8,12 +8,11 @@ use std::io::{BufRead, BufReader};
 
 fn main(rt: HostRuntime) -> anyhow::Result<()> {
     let heap = rt.alloc();
-    let mut count: u64 = 0;
-    for line in BufReader::new(heap, rt.stdin())?.split(heap, b'\n') {
+    let lines = BufReader::new(heap, rt.stdin())?.split(heap, b'\n');
+    for (count, line) in (1u64..).zip(lines) {
         let line = line?;
         let number = number_in(line.as_slice().trim_ascii());
         let report = line_report(heap, number)?;
-        count = count.wrapping_add(1);
         println!(rt; "line {count}: {report}")?;
     }
     Ok(())
