@@ -28,7 +28,7 @@ fn c_bits(number: u64) -> CBits
     }
 }
 
-// The fields of a number of 36 bits, whether or not its flags clash.
+// The fields of a number of 36 bits, whether or not its flags clash. The casts are proved to lose nothing; a try_from would answer a Result that is always Ok.
 pub(crate) fn fields(number: u64) -> ControlWord
     requires { number < 2 ^ 36 }
     ensures value { result ≡ fields_of number }

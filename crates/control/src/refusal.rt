@@ -26,7 +26,7 @@ pub enum FillRefusal {
 }
 
 impl ControlRefusal {
-    // The number of the refusal.
+    // The number of the refusal: its discriminant. A cast asks for the enum's own type, so each enum has this function.
     pub fn number(self) -> u32
         ensures { result ≡ control_number self }
     {
@@ -35,7 +35,7 @@ impl ControlRefusal {
 }
 
 impl FillRefusal {
-    // The number of the refusal.
+    // The number of the refusal: a match, since a case with fields has no discriminant to cast.
     pub fn number(self) -> u32
         ensures { result ≡ fill_number self }
     {

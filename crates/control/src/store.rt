@@ -65,6 +65,7 @@ fn check_numbers(numbers: &[u64; 512]) -> Result<(), FillRefusal>
     ensures accepted { result ≡ Ok tt → AllAccepted numbers.now }
 {
     for (i, &number) in numbers.iter().enumerate() {
+        // proved to lose nothing: there are 512 numbers
         let address = i as u16;
         decode(number).map_err(|cause| FillRefusal::WrongWord { address, cause })?;
     }

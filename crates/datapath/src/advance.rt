@@ -12,7 +12,7 @@ fn jumps(word: &ControlWord, n: bool, z: bool) -> bool
     (word.jamn && n) || (word.jamz && z)
 }
 
-// The next MPC.
+// The next MPC. That NEXT has 9 bits is a premise here and in advance, and no fact of a control word: encode takes words of any NEXT.
 fn successor(word: &ControlWord, mbr: u8, n: bool, z: bool) -> u16
     ensures value { result ≡ successor_of word.now mbr n z }
     ensures within { word.now.next < 2 ^ 9 → result < 2 ^ 9 }

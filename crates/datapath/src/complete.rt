@@ -22,7 +22,7 @@ fn place<T>(
     })
 }
 
-// The byte at a byte address, of its word.
+// The byte at a byte address, of its word. A cast to usize, which has no From<u32>.
 fn byte_of(word: u32, address: u32) -> u8
     ensures { result ≡ byte_in word address }
 {

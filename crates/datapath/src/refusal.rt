@@ -12,7 +12,7 @@ pub enum PowerRefusal {
 }
 
 impl PowerRefusal {
-    // The number of the refusal.
+    // The number of the refusal: its discriminant. A cast asks for the enum's own type, so each enum has this function.
     pub fn number(self) -> u32
         ensures { result ≡ power_number self }
     {

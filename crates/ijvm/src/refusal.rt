@@ -30,7 +30,7 @@ pub enum StepRefusal {
 }
 
 impl StepRefusal {
-    // The number of the refusal.
+    // The number of the refusal: its discriminant. A cast asks for the enum's own type, so each enum has this function.
     pub fn number(self) -> u32
         ensures { result ≡ step_number self }
     {

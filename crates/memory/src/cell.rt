@@ -4,6 +4,7 @@ ghost use Rattle.memory.specs.Cells.{words_of};
 ghost use Rattle.std.proofs.Common.{rules};
 
 // A number type of which one or more, in a row, make a word: digits in a base, the most significant first.
+// An address becomes a usize by a cast, since usize has no From<u32>.
 pub trait Cell: Copy + Drop {
     // How many cells make a word.
     ghost PER_WORD: { ℕ };

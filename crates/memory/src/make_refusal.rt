@@ -15,7 +15,7 @@ pub enum MakeRefusal {
 }
 
 impl MakeRefusal {
-    // The number of the refusal.
+    // The number of the refusal: its discriminant. A cast asks for the enum's own type, so each enum has this function.
     pub fn number(self) -> u32
         ensures { result ≡ make_number self }
     {

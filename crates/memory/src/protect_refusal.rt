@@ -13,7 +13,7 @@ pub enum ProtectRefusal {
 }
 
 impl ProtectRefusal {
-    // The number of the refusal.
+    // The number of the refusal: its discriminant. A cast asks for the enum's own type, so each enum has this function.
     pub fn number(self) -> u32
         ensures { result ≡ protect_number self }
     {

@@ -18,7 +18,7 @@ impl fmt::Display for When {
     }
 }
 
-// The name of what drives the bus.
+// The name of what drives the bus. A name that is chosen whole is a &str, which Display then writes; so are the inputs' names.
 fn source_name(source: Option<Source>) -> &'static str
     ensures { result.now ≡ source_text_of source }
 {

@@ -1,4 +1,4 @@
-// The labels of the published listing, by the address of the line.
+// The labels of the published listing, by the address of the line. A list that is searched: as a match it would be a function of 113 arms, and as a map it would have to be built in each run.
 
 const LABELS: [(u16, &str); 113] = [
     (0x100, "Main1"),

@@ -11,7 +11,7 @@ use microprogram::published_store;
 // The line at which each instruction begins.
 const MAIN1: u16 = 0x100;
 
-// More cycles than any instruction takes, and more instructions than the method takes for any number of turns.
+// More cycles than any instruction takes, and more instructions than the method takes for any number of turns: every loop is proved to end, so each counts up to a bound.
 const MOST_CYCLES: u64 = 100;
 
 const MOST_INSTRUCTIONS: u32 = 2000;
