@@ -17,10 +17,13 @@ fill_number WrongCount = 10
 fill_number (WrongWord address cause) = control_number cause
 
 -- The refusals as text.
+abbrev pub control_reason : ControlRefusal → List ℕ
+control_reason TooWide = codes "a number or a field is too wide"
+control_reason TwoShifts = codes "SLL8 with SRA1"
+control_reason TwoAccesses = codes "WRITE with READ"
+
 abbrev pub control_text : ControlRefusal → List ℕ
-control_text TooWide = codes "refused 7: a number or a field is too wide"
-control_text TwoShifts = codes "refused 8: SLL8 with SRA1"
-control_text TwoAccesses = codes "refused 9: WRITE with READ"
+control_text refusal = codes "refused " ++ (decimal (control_number refusal) ++ (codes ": " ++ control_reason refusal))
 
 abbrev pub fill_text : FillRefusal → List ℕ
 fill_text WrongCount = codes "refused 10: the count is not 512"

@@ -69,8 +69,8 @@ fn check_flags(word: &ControlWord) -> Result<(), ControlRefusal>
     Ok(())
 }
 
-// A call of its own name and no TryFrom: its contract also promises the way back, and so does encode's.
 // The fields of a number; refused (7) for 2^36 or more, (8) for SLL8 with SRA1, (9) for WRITE with READ, in this order.
+// No TryFrom, but a call of its own: its contract also promises the way back, and so does encode's.
 pub fn decode(number: u64) -> Result<ControlWord, ControlRefusal>
     ensures value { result ≡ decode_of number }
     ensures back { EncodesBack number result }

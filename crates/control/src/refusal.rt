@@ -50,11 +50,12 @@ impl fmt::Display for ControlRefusal {
     ghost output = { λ refusal. Some (control_text refusal) };
 
     fn fmt<W: fmt::Write>(&self, f: &mut fmt::Formatter<W>) -> fmt::Result {
-        f.write_str(match self {
-            ControlRefusal::TooWide => "refused 7: a number or a field is too wide",
-            ControlRefusal::TwoShifts => "refused 8: SLL8 with SRA1",
-            ControlRefusal::TwoAccesses => "refused 9: WRITE with READ",
-        })
+        let reason = match self {
+            ControlRefusal::TooWide => "a number or a field is too wide",
+            ControlRefusal::TwoShifts => "SLL8 with SRA1",
+            ControlRefusal::TwoAccesses => "WRITE with READ",
+        };
+        write!(f, "refused {}: {reason}", self.number())
     }
 }
 

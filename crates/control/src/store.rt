@@ -26,9 +26,7 @@ impl ControlStore {
         ensures answer { result ≡ fill_of numbers.now }
         ensures after { self.new.numbers ≡ filled_of self.old.numbers numbers.now }
     {
-        let Ok(numbers) = <[u64; 512]>::try_from(numbers) else {
-            return Err(FillRefusal::WrongCount);
-        };
+        let numbers = <[u64; 512]>::try_from(numbers).map_err(|_| FillRefusal::WrongCount)?;
         check_numbers(&numbers)?;
         self.numbers = numbers;
         Ok(())

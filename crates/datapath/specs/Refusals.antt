@@ -12,8 +12,11 @@ abbrev pub power_number : PowerRefusal → ℕ
 power_number WrongMpc = 11
 
 -- The same as text.
+abbrev pub power_reason : PowerRefusal → List ℕ
+power_reason WrongMpc = codes "MPC is above 511"
+
 abbrev pub power_text : PowerRefusal → List ℕ
-power_text WrongMpc = codes "refused 11: MPC is above 511"
+power_text refusal = codes "refused " ++ (decimal (power_number refusal) ++ (codes ": " ++ power_reason refusal))
 
 -- The ports by name.
 abbrev pub port_text : Port → List ℕ

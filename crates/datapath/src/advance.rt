@@ -5,7 +5,7 @@ ghost use Rattle.datapath.specs.Cycle.{successor_of, loaded_of, arriving, arrive
 use crate::{DataAccess, FetchAccess, State};
 use control::{ControlWord, Registers, Source, alu, bus, shift};
 
-// Whether the word jumps on N or Z.
+// Whether the word jumps on N or Z. They stand apart, as the ALU answers them.
 fn jumps(word: &ControlWord, n: bool, z: bool) -> bool
     ensures { result ≡ ((word.now.jamn && n) || (word.now.jamz && z)) }
 {
@@ -50,9 +50,9 @@ fn load(word: &ControlWord, r: &Registers, v: u32) -> Registers
 fn arrive(r: Registers, word: Option<u32>) -> Registers
     ensures { result ≡ arrived_of r word }
 {
-    match word {
-        Some(mdr) => Registers { mdr, ..r },
-        None => r,
+    Registers {
+        mdr: word.unwrap_or(r.mdr),
+        ..r
     }
 }
 
@@ -80,11 +80,7 @@ fn begin_data(word: &ControlWord, r: &Registers, mpc: u16) -> Option<DataAccess>
 fn begin_fetch(word: &ControlWord, r: &Registers, mpc: u16) -> Option<FetchAccess>
     ensures { result ≡ begun_fetch word.now r.now mpc }
 {
-    if word.fetch {
-        Some(FetchAccess { address: r.pc, mpc })
-    } else {
-        None
-    }
+    word.fetch.then_some(FetchAccess { address: r.pc, mpc })
 }
 
 // The state after a cycle in which a byte and a word may arrive.

@@ -58,12 +58,10 @@ pub(crate) fn accessed<M: Memory>(
     match access {
         None => Ok(None),
         Some(DataAccess::Read { address, mpc }) => {
-            let word = place((*memory).read(address), address, Port::Read, mpc)?;
-            Ok(Some(word))
+            place((*memory).read(address), address, Port::Read, mpc).map(Some)
         }
         Some(DataAccess::Write { address, mpc, word }) => {
-            place(memory.write(address, word), address, Port::Write, mpc)?;
-            Ok(None)
+            place(memory.write(address, word), address, Port::Write, mpc).map(|()| None)
         }
     }
 }

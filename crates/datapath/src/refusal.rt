@@ -24,9 +24,10 @@ impl fmt::Display for PowerRefusal {
     ghost output = { λ refusal. Some (power_text refusal) };
 
     fn fmt<W: fmt::Write>(&self, f: &mut fmt::Formatter<W>) -> fmt::Result {
-        f.write_str(match self {
-            PowerRefusal::WrongMpc => "refused 11: MPC is above 511",
-        })
+        let reason = match self {
+            PowerRefusal::WrongMpc => "MPC is above 511",
+        };
+        write!(f, "refused {}: {reason}", self.number())
     }
 }
 

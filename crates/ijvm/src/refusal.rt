@@ -1,6 +1,6 @@
 // Why a step is refused, and the number of the refusal.
 ghost use Rattle.std.specs.Prelude.{◌≡◌, Some};
-ghost use Rattle.ijvm.specs.Refusals.{step_number, step_text};
+ghost use Rattle.ijvm.specs.Refusals.{step_number, step_reason, step_text};
 
 use std::error::Error;
 use std::fmt;
@@ -36,25 +36,31 @@ impl StepRefusal {
     {
         self as u32
     }
+
+    // The reason, in words.
+    fn reason(self) -> &'static str
+        ensures { result.now ≡ step_reason self }
+    {
+        match self {
+            StepRefusal::OutsideCode => "a byte of the instruction lies outside code",
+            StepRefusal::UnknownOpcode => "no instruction has this opcode",
+            StepRefusal::TooShallow => "the operand stack is not deep enough",
+            StepRefusal::NoVariable => "the frame has no such variable",
+            StepRefusal::NotInPool => "the index or disp is not below the pool count",
+            StepRefusal::WrongMethod => "the method's code lies outside code, or it has no params",
+            StepRefusal::NoRoom => "the new SP is not below size",
+            StepRefusal::NextOutside => "the next PC lies outside code",
+            StepRefusal::End => "main returns",
+            StepRefusal::NotLoaded => "no program is loaded",
+        }
+    }
 }
 
 impl fmt::Display for StepRefusal {
     ghost output = { λ refusal. Some (step_text refusal) };
 
     fn fmt<W: fmt::Write>(&self, f: &mut fmt::Formatter<W>) -> fmt::Result {
-        f.write_str(match self {
-            StepRefusal::OutsideCode => "refused 30: a byte of the instruction lies outside code",
-            StepRefusal::UnknownOpcode => "refused 31: no instruction has this opcode",
-            StepRefusal::TooShallow => "refused 32: the operand stack is not deep enough",
-            StepRefusal::NoVariable => "refused 33: the frame has no such variable",
-            StepRefusal::NotInPool => "refused 34: the index or disp is not below the pool count",
-            StepRefusal::WrongMethod =>
-                "refused 35: the method's code lies outside code, or it has no params",
-            StepRefusal::NoRoom => "refused 36: the new SP is not below size",
-            StepRefusal::NextOutside => "refused 37: the next PC lies outside code",
-            StepRefusal::End => "refused 38: main returns",
-            StepRefusal::NotLoaded => "refused 39: no program is loaded",
-        })
+        write!(f, "refused {}: {}", self.number(), self.reason())
     }
 }
 

@@ -1,6 +1,7 @@
 -- A word by its four bytes.
-use Rattle.std.proofs.Common.{◌≡◌, ℕ, ◌+◌, ◌-◌, ◌*◌, ◌/◌, ◌%◌, ◌^◌, ◌<◌, ◌≤◌, List, [], ◌∷◌, Some, length, get_or, set, slice_get, slice_range, ap, ◌∙◌, arith, rules}
+use Rattle.std.proofs.Common.{◌≡◌, ℕ, ◌+◌, ◌-◌, ◌*◌, ◌/◌, ◌%◌, ◌^◌, ◌<◌, ◌≤◌, ◌≢◌, List, [], ◌∷◌, Some, length, get_or, set, slice_get, slice_range, ap, ◌∙◌, ⊎_elim, arith, rules}
 use Rattle.std.specs.Int.Digits.{number_from_digits}
+use Rattle.std.proofs.lemmas.Bool.{cases_lt}
 use Rattle.std.proofs.lemmas.List.{places}
 use Rattle.std.proofs.lemmas.Nat.{shr-shr, div-add-mod'}
 use borrow.Rule.Slice.PartMut.{put_mid}
@@ -32,3 +33,15 @@ bytes_put cells ds a w h small e =
     ap (λ k. words_of 4 256 (put_mid (4 * a) k cells ds)) {x = 4 * a + 4 - 4 * a} {y = 4} (omega arith)
     ∙ words_of-put 4 256 cells ds a (omega arith) (ap length e) (omega arith)
     ∙ ap (set (words_of 4 256 cells) a) (ap (number_from_digits 256) e ∙ four_bytes w small)
+
+-- and leave the others
+pub other_bytes : (cells ds : List ℕ) (a k : ℕ) → 4 * a + 4 ≤ length cells → length ds ≡ 4 → k / 4 ≢ a → get_or (put_mid (4 * a) (4 * a + 4 - 4 * a) cells ds) k 0 ≡ get_or cells k 0
+other_bytes cells ds a k h long ne =
+    ⊎_elim
+    (λ (l : k < 4 * a). search (rules, places))
+    (λ (g : 4 * a ≤ k).
+    ⊎_elim
+    (λ (l : k < 4 * a + 4). absurd (ne (omega arith)))
+    (λ (r : 4 * a + 4 ≤ k). search (rules, places))
+    (cases_lt k (4 * a + 4)))
+    (cases_lt k (4 * a))

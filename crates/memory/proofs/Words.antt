@@ -31,6 +31,10 @@ one_cell b cells =
     (fill_by_all (word_at 1 b cells) cells (length cells / 1) 0 (omega arith)
     (λ k h. ap (λ i. get_or cells i 0) {x = k} {y = 1 * k + 0} (omega arith) ∙ omega arith))
 
+-- where it is one, writing it leaves the others
+pub other_cells : (cells : List ℕ) (a w k : ℕ) → k / 1 ≢ a → get_or (set cells a w) k 0 ≡ get_or cells k 0
+other_cells cells a w k ne = get_or-set_other cells a k w 0 (λ e. ne (omega arith))
+
 -- a word that is there, and none past the end
 pub found : (n b : ℕ) (cells : List ℕ) (a w : ℕ) → a < length cells / n → w ≡ word_at n b cells a → Some w ≡ slice_get (words_of n b cells) a
 found n b cells a w h e =

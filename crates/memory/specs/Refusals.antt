@@ -1,5 +1,5 @@
 -- The refusals of the memory's calls, by their numbers in the manual.
-use Rattle.std.specs.Prelude.{ℕ, List, codes}
+use Rattle.std.specs.Prelude.{ℕ, List, ◌++◌, codes, decimal}
 use Rattle.memory.specs.declared.make_refusal.MakeRefusal.{MakeRefusal}
 use Rattle.memory.specs.declared.make_refusal.MakeRefusal.TheVariants.{WrongSize, BrokenWord}
 use Rattle.memory.specs.declared.access_refusal.AccessRefusal.{AccessRefusal}
@@ -22,13 +22,22 @@ abbrev pub protect_number : ProtectRefusal → ℕ
 protect_number WrongMark = 6
 
 -- The refusals as text.
+abbrev pub make_reason : MakeRefusal → List ℕ
+make_reason WrongSize = codes "the size is not from 16 to 1048576 words"
+make_reason BrokenWord = codes "the buffer is no whole number of words"
+
 abbrev pub make_text : MakeRefusal → List ℕ
-make_text WrongSize = codes "refused 1: the size is not from 16 to 1048576 words"
-make_text BrokenWord = codes "refused 2: the buffer is no whole number of words"
+make_text refusal = codes "refused " ++ (decimal (make_number refusal) ++ (codes ": " ++ make_reason refusal))
+
+abbrev pub access_reason : AccessRefusal → List ℕ
+access_reason OutOfRange = codes "the address is not below the size"
+access_reason Protected = codes "the word is protected"
 
 abbrev pub access_text : AccessRefusal → List ℕ
-access_text OutOfRange = codes "refused 4: the address is not below the size"
-access_text Protected = codes "refused 5: the word is protected"
+access_text refusal = codes "refused " ++ (decimal (access_number refusal) ++ (codes ": " ++ access_reason refusal))
+
+abbrev pub protect_reason : ProtectRefusal → List ℕ
+protect_reason WrongMark = codes "the mark is below the present one or above the size"
 
 abbrev pub protect_text : ProtectRefusal → List ℕ
-protect_text WrongMark = codes "refused 6: the mark is below the present one or above the size"
+protect_text refusal = codes "refused " ++ (decimal (protect_number refusal) ++ (codes ": " ++ protect_reason refusal))

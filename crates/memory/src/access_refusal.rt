@@ -27,10 +27,11 @@ impl fmt::Display for AccessRefusal {
     ghost output = { λ refusal. Some (access_text refusal) };
 
     fn fmt<W: fmt::Write>(&self, f: &mut fmt::Formatter<W>) -> fmt::Result {
-        f.write_str(match self {
-            AccessRefusal::OutOfRange => "refused 4: the address is not below the size",
-            AccessRefusal::Protected => "refused 5: the word is protected",
-        })
+        let reason = match self {
+            AccessRefusal::OutOfRange => "the address is not below the size",
+            AccessRefusal::Protected => "the word is protected",
+        };
+        write!(f, "refused {}: {reason}", self.number())
     }
 }
 

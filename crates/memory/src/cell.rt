@@ -1,33 +1,41 @@
 // The cells of a buffer, and the words that they make.
-ghost use Rattle.std.specs.Prelude.{◌≡◌, ℕ, ◌^◌, ◌<◌, List, length, slice_get, slice_set, refl};
+ghost use Rattle.std.specs.Prelude.{◌≡◌, ℕ, ◌^◌, ◌<◌, ◌/◌, ◌≢◌, List, length, slice_index, slice_get, slice_set, refl, Some, None};
+ghost use Rattle.std.specs.Option.{option_map};
 ghost use Rattle.memory.specs.Cells.{words_of};
 ghost use Rattle.std.proofs.Common.{rules};
 
 // A number type of which one or more, in a row, make a word: digits in a base, the most significant first.
-// An address becomes a usize by a cast, since usize has no From<u32>.
+// An address becomes a usize by a cast, since usize has no From<u32>. Clauses name PER_WORD, base and digits apart, since a definition in specs cannot take a bound.
 pub trait Cell: Copy + Drop {
     // How many cells make a word.
     ghost PER_WORD: { ℕ };
 
     const PER_WORD: usize;
 
-    // How many values a cell can have.
+    // The base of the digits.
     ghost base: { ℕ };
 
-    // The cells of a buffer as digits.
+    // A cell as a digit, and the cells of a buffer as digits.
+    ghost digit: { Self → ℕ };
+
     ghost digits: { List Self → List ℕ };
 
     // The word at an address, if there is one.
     fn word_at(cells: &[Self], address: u32) -> Option<u32>
         ensures { result ≡ slice_get (words_of PER_WORD base (digits cells.now)) address };
 
-    // Replaces the word at an address, if there is one.
+    // Replaces the word at an address, if there is one, and no other cell.
     fn put_word(cells: &mut [Self], address: u32, word: u32)
-        ensures { words_of PER_WORD base (digits cells.new) ≡ slice_set (words_of PER_WORD base (digits cells.old)) address word };
+        ensures word { words_of PER_WORD base (digits cells.new) ≡ slice_set (words_of PER_WORD base (digits cells.old)) address word }
+        ensures elsewhere { (k : ℕ) → k / PER_WORD ≢ address → slice_index (digits cells.new) k ≡ slice_index (digits cells.old) k };
 
     ghost positive: { 0 < PER_WORD };
 
     ghost count: { (cells : List Self) → length (digits cells) ≡ length cells };
+
+    ghost each: { (cells : List Self) (k : ℕ) → slice_get (digits cells) k ≡ option_map digit (slice_get cells k) };
+
+    ghost one_to_one: { (a b : Self) → digit a ≡ digit b → a ≡ b };
 }
 
 // One to a word.
@@ -38,6 +46,8 @@ impl Cell for u32 {
 
     ghost base = { 2 ^ 32 };
 
+    ghost digit = { λ cell. cell };
+
     ghost digits = { λ cells. cells };
 
     #[tactic(auto, using(crate::proofs::Words::one_cell, crate::proofs::Words::copied))]
@@ -45,8 +55,9 @@ impl Cell for u32 {
         cells.get(address as usize).copied()
     }
 
-    #[tactic(auto, using(crate::proofs::Words::one_cell, crate::proofs::Words::unset))]
+    #[tactic(auto, using(crate::proofs::Words::one_cell, crate::proofs::Words::unset, crate::proofs::Words::other_cells))]
     fn put_word(cells: &mut [u32], address: u32, word: u32) {
+        // an index and no get_mut: the check does not follow a write through what that lends
         let at = address as usize;
         if at < cells.len() {
             cells[at] = word;
@@ -56,6 +67,10 @@ impl Cell for u32 {
     ghost positive = { Prim.search rules };
 
     ghost count = { λ _. refl };
+
+    ghost each = { λ cells k. elim (slice_get cells k) as (λ o. o ≡ option_map (λ cell. cell) o) [ None ↦ refl | Some _ ↦ refl ] };
+
+    ghost one_to_one = { λ _ _ same. same };
 }
 
 // Four to a word.
@@ -66,16 +81,18 @@ impl Cell for u8 {
 
     ghost base = { 2 ^ 8 };
 
+    ghost digit = { λ cell. cell };
+
     ghost digits = { λ cells. cells };
 
     #[tactic(auto, using(crate::proofs::Bytes::bytes_read, crate::proofs::Words::past))]
     fn word_at(cells: &[u8], address: u32) -> Option<u32> {
         let at = 4 * address as usize;
-        let bytes = cells.get(at..at + 4)?;
-        Some(u32::from_be_bytes([bytes[0], bytes[1], bytes[2], bytes[3]]))
+        let bytes = cells.get(at..at + 4)?.try_into().ok()?;
+        Some(u32::from_be_bytes(bytes))
     }
 
-    #[tactic(auto, using(crate::proofs::Bytes::bytes_put, crate::proofs::Words::unset))]
+    #[tactic(auto, using(crate::proofs::Bytes::bytes_put, crate::proofs::Bytes::other_bytes, crate::proofs::Words::unset))]
     fn put_word(cells: &mut [u8], address: u32, word: u32) {
         let at = 4 * address as usize;
         if at + 4 <= cells.len() {
@@ -86,4 +103,8 @@ impl Cell for u8 {
     ghost positive = { Prim.search rules };
 
     ghost count = { λ _. refl };
+
+    ghost each = { λ cells k. elim (slice_get cells k) as (λ o. o ≡ option_map (λ cell. cell) o) [ None ↦ refl | Some _ ↦ refl ] };
+
+    ghost one_to_one = { λ _ _ same. same };
 }

@@ -34,7 +34,7 @@ impl<'a, C: Cell> LentMemory<'a, C> {
         let size = cells.len() / C::PER_WORD;
         if cells.len() % C::PER_WORD != 0 {
             Some(MakeRefusal::BrokenWord)
-        } else if size < 16 || size > 1_048_576 {
+        } else if !(16..=1_048_576).contains(&size) {
             Some(MakeRefusal::WrongSize)
         } else {
             None
@@ -80,6 +80,7 @@ impl<C: Cell> Memory for LentMemory<'_, C> {
         if address >= self.size() {
             return Err(AccessRefusal::OutOfRange);
         }
+        // the first test is for refused buffers, which have cells and no words
         C::word_at(self.cells, address).ok_or(AccessRefusal::OutOfRange)
     }
 

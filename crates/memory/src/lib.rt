@@ -1,4 +1,4 @@
-// The memory of the Mic-1: what a memory means, and two memories that have this meaning.
+// The memory of the Mic-1: what a memory means, and a memory over a lent buffer of words or of bytes that has this meaning.
 #![tactic(auto)]
 
 ghost use Rattle.std.specs.Prelude.{◌≡◌};

@@ -27,10 +27,11 @@ impl fmt::Display for MakeRefusal {
     ghost output = { λ refusal. Some (make_text refusal) };
 
     fn fmt<W: fmt::Write>(&self, f: &mut fmt::Formatter<W>) -> fmt::Result {
-        f.write_str(match self {
-            MakeRefusal::WrongSize => "refused 1: the size is not from 16 to 1048576 words",
-            MakeRefusal::BrokenWord => "refused 2: the buffer is no whole number of words",
-        })
+        let reason = match self {
+            MakeRefusal::WrongSize => "the size is not from 16 to 1048576 words",
+            MakeRefusal::BrokenWord => "the buffer is no whole number of words",
+        };
+        write!(f, "refused {}: {reason}", self.number())
     }
 }
 

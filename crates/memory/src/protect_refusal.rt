@@ -25,10 +25,10 @@ impl fmt::Display for ProtectRefusal {
     ghost output = { λ refusal. Some (protect_text refusal) };
 
     fn fmt<W: fmt::Write>(&self, f: &mut fmt::Formatter<W>) -> fmt::Result {
-        f.write_str(match self {
-            ProtectRefusal::WrongMark =>
-                "refused 6: the mark is below the present one or above the size",
-        })
+        let reason = match self {
+            ProtectRefusal::WrongMark => "the mark is below the present one or above the size",
+        };
+        write!(f, "refused {}: {reason}", self.number())
     }
 }
 

@@ -57,7 +57,7 @@ fn take_apart(number: u64) -> Result<(ControlWord, u64), ControlRefusal>
     Ok((word, back))
 }
 
-// What a refusal means.
+// What a refusal of decode means; the refusal's own text is also for encode.
 #[derive(Drop)]
 struct Meaning(ControlRefusal);
 
@@ -65,11 +65,11 @@ impl fmt::Display for Meaning {
     ghost output = { λ m. Some (meaning_text_of m.0) };
 
     fn fmt<W: fmt::Write>(&self, f: &mut fmt::Formatter<W>) -> fmt::Result {
-        match self.0 {
-            ControlRefusal::TooWide => write!(f, "the number is 2^36 or more"),
-            ControlRefusal::TwoShifts => write!(f, "SLL8 with SRA1"),
-            ControlRefusal::TwoAccesses => write!(f, "WRITE with READ"),
-        }
+        f.write_str(match self.0 {
+            ControlRefusal::TooWide => "the number is 2^36 or more",
+            ControlRefusal::TwoShifts => "SLL8 with SRA1",
+            ControlRefusal::TwoAccesses => "WRITE with READ",
+        })
     }
 }
 
@@ -98,7 +98,7 @@ impl fmt::Display for LineReport {
     fn fmt<W: fmt::Write>(&self, f: &mut fmt::Formatter<W>) -> fmt::Result {
         match self.0 {
             Some(number) => write!(f, "{}", WordReport(number)),
-            None => write!(f, "not a hexadecimal number"),
+            None => f.write_str("not a hexadecimal number"),
         }
     }
 }

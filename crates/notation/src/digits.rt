@@ -20,7 +20,7 @@ impl fmt::Display for Address {
 }
 
 // The 36 bits of a control word.
-#[derive(Clone, Copy)]
+#[derive(Clone, Copy, Debug, PartialEq, Eq)]
 pub struct Bits(pub u64);
 
 #[tactic(auto, using(crate::proofs::Hexadecimal::nine_lowest))]

@@ -140,7 +140,7 @@ impl fmt::Display for Successor<'_> {
 }
 
 // The operations of a control word.
-#[derive(Clone, Copy)]
+#[derive(Clone, Copy, Debug, PartialEq, Eq)]
 pub struct Operations<'a>(pub &'a ControlWord);
 
 impl fmt::Display for Operations<'_> {

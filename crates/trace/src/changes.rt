@@ -3,7 +3,7 @@ use datapath::{DataAccess, State};
 use std::fmt;
 
 // The state before a cycle and the one after it. Displayed are the registers and the word that changed, then what is under way now.
-#[derive(Clone, Copy)]
+#[derive(Clone, Copy, Debug, PartialEq, Eq)]
 pub struct Changes {
     pub before: State,
     pub after: State,

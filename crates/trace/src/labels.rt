@@ -120,6 +120,6 @@ const LABELS: [(u16, &str); 113] = [
 pub fn label(address: u16) -> &'static str {
     LABELS
         .iter()
-        .find(|line| line.0 == address)
-        .map_or("(free)", |line| line.1)
+        .find(|(at, _)| *at == address)
+        .map_or("(free)", |(_, label)| *label)
 }

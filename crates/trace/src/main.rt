@@ -22,9 +22,9 @@ fn turns_in(line: &str) -> Option<u8> {
 fn main(rt: HostRuntime) -> anyhow::Result<()> {
     let heap = rt.alloc();
     let mut line = String::new(heap);
-    // what is no text holds no number
-    let read = BufReader::new(heap, rt.stdin())?.read_line(&mut line);
-    match read.ok().and_then(|_| turns_in(line.as_str())) {
+    // dropped: what cannot be read, or is no text, holds no number
+    let _ = BufReader::new(heap, rt.stdin())?.read_line(&mut line);
+    match turns_in(line.as_str()) {
         Some(turns) => {
             let performed = trace(&rt, turns)?;
             report(&rt, performed.as_slice())?;

@@ -4,7 +4,7 @@ use crate::run::Performed;
 use std::fmt;
 
 // Instructions, displayed as the sum of their cycles.
-#[derive(Clone, Copy)]
+#[derive(Clone, Copy, Debug, PartialEq, Eq)]
 struct Sum<'a>(&'a [Performed]);
 
 impl Sum<'_> {
