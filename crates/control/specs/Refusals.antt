@@ -26,5 +26,5 @@ abbrev pub control_text : ControlRefusal → List ℕ
 control_text refusal = codes "refused " ++ (decimal (control_number refusal) ++ (codes ": " ++ control_reason refusal))
 
 abbrev pub fill_text : FillRefusal → List ℕ
-fill_text WrongCount = codes "refused 10: the count is not 512"
+fill_text WrongCount = codes "refused " ++ (decimal (fill_number WrongCount) ++ codes ": the count is not 512")
 fill_text (WrongWord address cause) = control_text cause ++ (codes ", at address " ++ decimal address)

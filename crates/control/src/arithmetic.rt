@@ -38,7 +38,7 @@ fn result(word: &ControlWord, h: u32, bus: u32) -> u32
     chosen(word, left(word, h), right, u32::from(word.inc))
 }
 
-// The result of the ALU, N and Z, from H and the bus: they leave it together, so they are one tuple.
+// The result of the ALU, N and Z, from H and the bus: it is a rule of the machine that they leave the ALU together, as one answer of three parts.
 pub fn alu(word: &ControlWord, h: u32, bus: u32) -> (u32, bool, bool)
     ensures value { result ≡ alu_of word.now h bus }
     ensures table { ByTheTable word.now h bus result.0 }

@@ -94,7 +94,7 @@ fn flags(w: &ControlWord) -> [bool; 23]
     ]
 }
 
-// NEXT with the flags behind it. A loop and no fold: of a fold's sum the library does not say that it fits 64 bits.
+// NEXT with the flags behind it. A loop and no fold: that was tried, and of a fold's sum it is not proved that it fits 64 bits.
 fn joined(next: u16, flags: &[bool; 23]) -> u64
     requires { next < 512 }
     ensures value { result ≡ behind next flags.now }

@@ -1,6 +1,6 @@
 // Why control words are refused, and the number of each refusal.
 ghost use Rattle.std.specs.Prelude.{◌≡◌, Some};
-ghost use Rattle.control.specs.Refusals.{control_number, control_text, fill_number, fill_text};
+ghost use Rattle.control.specs.Refusals.{control_number, control_reason, control_text, fill_number, fill_text};
 
 use std::error::Error;
 use std::fmt;
@@ -32,6 +32,17 @@ impl ControlRefusal {
     {
         self as u32
     }
+
+    // The reason, in words.
+    fn reason(self) -> &'static str
+        ensures { result.now ≡ control_reason self }
+    {
+        match self {
+            ControlRefusal::TooWide => "a number or a field is too wide",
+            ControlRefusal::TwoShifts => "SLL8 with SRA1",
+            ControlRefusal::TwoAccesses => "WRITE with READ",
+        }
+    }
 }
 
 impl FillRefusal {
@@ -46,16 +57,12 @@ impl FillRefusal {
     }
 }
 
+// As that of every refusal: a Display for all types of a trait is not to be had.
 impl fmt::Display for ControlRefusal {
     ghost output = { λ refusal. Some (control_text refusal) };
 
     fn fmt<W: fmt::Write>(&self, f: &mut fmt::Formatter<W>) -> fmt::Result {
-        let reason = match self {
-            ControlRefusal::TooWide => "a number or a field is too wide",
-            ControlRefusal::TwoShifts => "SLL8 with SRA1",
-            ControlRefusal::TwoAccesses => "WRITE with READ",
-        };
-        write!(f, "refused {}: {reason}", self.number())
+        write!(f, "refused {}: {}", self.number(), self.reason())
     }
 }
 
@@ -64,7 +71,7 @@ impl fmt::Display for FillRefusal {
 
     fn fmt<W: fmt::Write>(&self, f: &mut fmt::Formatter<W>) -> fmt::Result {
         match self {
-            FillRefusal::WrongCount => f.write_str("refused 10: the count is not 512"),
+            FillRefusal::WrongCount => write!(f, "refused {}: the count is not 512", self.number()),
             FillRefusal::WrongWord { address, cause } => write!(f, "{cause}, at address {address}"),
         }
     }

@@ -6,7 +6,7 @@ ghost use Rattle.control.specs.Store.{AllAccepted, first_refused, fill_of, fille
 use crate::codec::fields;
 use crate::{ControlWord, FillRefusal, decode};
 
-// 512 control words by their numbers, none of which decode refuses.
+// 512 control words by their numbers, none of which decode refuses. No impl Model: callers would see a list, and not that fact.
 #[derive(Drop)]
 pub struct ControlStore {
     numbers: [u64; 512],
@@ -63,7 +63,7 @@ fn check_numbers(numbers: &[u64; 512]) -> Result<(), FillRefusal>
     ensures accepted { result ≡ Ok tt → AllAccepted numbers.now }
 {
     for (i, &number) in numbers.iter().enumerate() {
-        // proved to lose nothing: there are 512 numbers
+        // A cast and no zip with 0..: that was tried, and leaves the loop's invariant without an index. There are 512 numbers, so nothing is lost.
         let address = i as u16;
         decode(number).map_err(|cause| FillRefusal::WrongWord { address, cause })?;
     }

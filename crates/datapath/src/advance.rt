@@ -5,14 +5,14 @@ ghost use Rattle.datapath.specs.Cycle.{successor_of, loaded_of, arriving, arrive
 use crate::{DataAccess, FetchAccess, State};
 use control::{ControlWord, Registers, Source, alu, bus, shift};
 
-// Whether the word jumps on N or Z. They stand apart, as the ALU answers them.
+// Whether the word jumps on N or Z. They stand apart, as the ALU has to answer them.
 fn jumps(word: &ControlWord, n: bool, z: bool) -> bool
     ensures { result ≡ ((word.now.jamn && n) || (word.now.jamz && z)) }
 {
     (word.jamn && n) || (word.jamz && z)
 }
 
-// The next MPC. That NEXT has 9 bits is a premise here and in advance, and no fact of a control word: encode takes words of any NEXT.
+// The next MPC. That NEXT has 9 bits is a premise here and in advance, and no fact of a control word: encode takes words of any NEXT, and a type for the others would be taken apart at every field. The two ifs are gates, as the rule has them.
 fn successor(word: &ControlWord, mbr: u8, n: bool, z: bool) -> u16
     ensures value { result ≡ successor_of word.now mbr n z }
     ensures within { word.now.next < 2 ^ 9 → result < 2 ^ 9 }

@@ -5,7 +5,7 @@ ghost use Rattle.datapath.specs.Cycle.{placed, byte_in, fetched_of, accessed_of,
 use crate::{DataAccess, Fault, FetchAccess, Port};
 use memory::{AccessRefusal, Memory};
 
-// The memory's answer; its refusal with the place where it came.
+// The memory's answer; its refusal with the place where it came: what a fault has besides.
 fn place<T>(
     answer: Result<T, AccessRefusal>,
     address: u32,

@@ -15,11 +15,7 @@ use memory::Memory;
 pub fn power_refusal(mpc: u16) -> Option<PowerRefusal>
     ensures { result ≡ power_refusal_of mpc }
 {
-    if mpc > 511 {
-        Some(PowerRefusal::WrongMpc)
-    } else {
-        None
-    }
+    (mpc > 511).then_some(PowerRefusal::WrongMpc)
 }
 
 impl<M: Memory> Datapath<M> {
@@ -55,7 +51,7 @@ impl<M: Memory> Datapath<M> {
         Ok(())
     }
 
-    // Up to n cycles; how many were done, and the fault of the one that stopped them. No Result: the cycles before a fault were done.
+    // Up to n cycles; how many were done, and the fault of the one that stopped them. No Result: the cycles before a fault were done. The loop counts them, since that is the answer.
     #[tactic(auto, using(crate::proofs::Repeated::go_start, crate::proofs::Repeated::go_more))]
     pub fn go(&mut self, store: &ControlStore, n: u64) -> (u64, Option<Fault>)
         ensures done { result.0 ≡ (go_of (numbers_in store.now) n (micro_of M.Memory.meaning self.old)).done }

@@ -3,6 +3,7 @@ ghost use Rattle.std.specs.Prelude.{◌^◌, ◌<◌};
 
 use crate::State;
 
+// No impl Model: it would hide the memory, whose loan the contracts name.
 #[derive(Drop)]
 pub struct Datapath<M> {
     pub(crate) memory: M,

@@ -1,6 +1,6 @@
 // Why a machine does not start where it is told to, and the number of the refusal.
 ghost use Rattle.std.specs.Prelude.{◌≡◌, Some};
-ghost use Rattle.datapath.specs.Refusals.{power_number, power_text};
+ghost use Rattle.datapath.specs.Refusals.{power_number, power_reason, power_text};
 
 use std::error::Error;
 use std::fmt;
@@ -18,16 +18,23 @@ impl PowerRefusal {
     {
         self as u32
     }
+
+    // The reason, in words.
+    fn reason(self) -> &'static str
+        ensures { result.now ≡ power_reason self }
+    {
+        match self {
+            PowerRefusal::WrongMpc => "MPC is above 511",
+        }
+    }
 }
 
+// As that of every refusal: a Display for all types of a trait is not to be had.
 impl fmt::Display for PowerRefusal {
     ghost output = { λ refusal. Some (power_text refusal) };
 
     fn fmt<W: fmt::Write>(&self, f: &mut fmt::Formatter<W>) -> fmt::Result {
-        let reason = match self {
-            PowerRefusal::WrongMpc => "MPC is above 511",
-        };
-        write!(f, "refused {}: {reason}", self.number())
+        write!(f, "refused {}: {}", self.number(), self.reason())
     }
 }
 

@@ -56,6 +56,7 @@ impl StepRefusal {
     }
 }
 
+// As that of every refusal: a Display for all types of a trait is not to be had.
 impl fmt::Display for StepRefusal {
     ghost output = { λ refusal. Some (step_text refusal) };
 

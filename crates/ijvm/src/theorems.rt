@@ -34,7 +34,7 @@ pub fn calls_nest(case: Case) -> Way
 }
 
 // A list of performed instructions takes the sum of its entries, front part by front part; the answer is that sum modulo 2^64, as the counter has it.
-// A loop and no fold: of a fold's sum modulo 2^64 no lemma of the library says what it is.
+// A loop and no fold: that was tried, and what the fold comes to modulo 2^64 was not proved.
 #[tactic(auto, using(crate::proofs::EveryCase::adds_up, crate::proofs::EveryCase::one_off, crate::proofs::EveryCase::none_left))]
 pub fn performed_instructions_add_up(cases: &[Case]) -> u64
     ensures sum { result ≡ total cases.now % 2 ^ 64 }

@@ -8,7 +8,7 @@ mod tests {
     use std::process::Abort;
     use std::test::Fail;
 
-    // the number of a refused fill, and the address where there is one
+    // the number of a refused fill, and the address where there is one: here as elsewhere the numbers are the manual's, and so they are compared
     fn place(refusal: FillRefusal) -> (u32, Option<u16>) {
         let address = match refusal {
             FillRefusal::WrongCount => None,

@@ -16,7 +16,7 @@ mod tests {
         Ok(store)
     }
 
-    // the cause's number, the word address, the port and the MPC of a fault
+    // the cause's number, as the manual has it, the word address, the port and the MPC of a fault
     fn shown(fault: Fault) -> (u32, u32, Port, u16) {
         (fault.cause.number(), fault.address, fault.port, fault.mpc)
     }

@@ -1,6 +1,6 @@
 // The refusal of read and write.
 ghost use Rattle.std.specs.Prelude.{◌≡◌, Some};
-ghost use Rattle.memory.specs.Refusals.{access_number, access_text};
+ghost use Rattle.memory.specs.Refusals.{access_number, access_reason, access_text};
 
 use std::error::Error;
 use std::fmt;
@@ -21,17 +21,24 @@ impl AccessRefusal {
     {
         self as u32
     }
+
+    // The reason, in words.
+    fn reason(self) -> &'static str
+        ensures { result.now ≡ access_reason self }
+    {
+        match self {
+            AccessRefusal::OutOfRange => "the address is not below the size",
+            AccessRefusal::Protected => "the word is protected",
+        }
+    }
 }
 
+// As that of every refusal: a Display for all types of a trait is not to be had.
 impl fmt::Display for AccessRefusal {
     ghost output = { λ refusal. Some (access_text refusal) };
 
     fn fmt<W: fmt::Write>(&self, f: &mut fmt::Formatter<W>) -> fmt::Result {
-        let reason = match self {
-            AccessRefusal::OutOfRange => "the address is not below the size",
-            AccessRefusal::Protected => "the word is protected",
-        };
-        write!(f, "refused {}: {reason}", self.number())
+        write!(f, "refused {}: {}", self.number(), self.reason())
     }
 }
 

@@ -38,7 +38,7 @@ pub trait Cell: Copy + Drop {
     ghost one_to_one: { (a b : Self) → digit a ≡ digit b → a ≡ b };
 }
 
-// One to a word.
+// One to a word. The ghost members are those of the bytes, since both are numbers; no default can say so for every type.
 impl Cell for u32 {
     ghost PER_WORD = { 1 };
 

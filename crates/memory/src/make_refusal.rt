@@ -1,6 +1,6 @@
 // The refusal of make.
 ghost use Rattle.std.specs.Prelude.{◌≡◌, Some};
-ghost use Rattle.memory.specs.Refusals.{make_number, make_text};
+ghost use Rattle.memory.specs.Refusals.{make_number, make_reason, make_text};
 
 use std::error::Error;
 use std::fmt;
@@ -21,17 +21,24 @@ impl MakeRefusal {
     {
         self as u32
     }
+
+    // The reason, in words.
+    fn reason(self) -> &'static str
+        ensures { result.now ≡ make_reason self }
+    {
+        match self {
+            MakeRefusal::WrongSize => "the size is not from 16 to 1048576 words",
+            MakeRefusal::BrokenWord => "the buffer is no whole number of words",
+        }
+    }
 }
 
+// As that of every refusal: a Display for all types of a trait is not to be had.
 impl fmt::Display for MakeRefusal {
     ghost output = { λ refusal. Some (make_text refusal) };
 
     fn fmt<W: fmt::Write>(&self, f: &mut fmt::Formatter<W>) -> fmt::Result {
-        let reason = match self {
-            MakeRefusal::WrongSize => "the size is not from 16 to 1048576 words",
-            MakeRefusal::BrokenWord => "the buffer is no whole number of words",
-        };
-        write!(f, "refused {}: {reason}", self.number())
+        write!(f, "refused {}: {}", self.number(), self.reason())
     }
 }
 

@@ -1,6 +1,6 @@
 // The refusal of protect.
 ghost use Rattle.std.specs.Prelude.{◌≡◌, Some};
-ghost use Rattle.memory.specs.Refusals.{protect_number, protect_text};
+ghost use Rattle.memory.specs.Refusals.{protect_number, protect_reason, protect_text};
 
 use std::error::Error;
 use std::fmt;
@@ -19,16 +19,23 @@ impl ProtectRefusal {
     {
         self as u32
     }
+
+    // The reason, in words.
+    fn reason(self) -> &'static str
+        ensures { result.now ≡ protect_reason self }
+    {
+        match self {
+            ProtectRefusal::WrongMark => "the mark is below the present one or above the size",
+        }
+    }
 }
 
+// As that of every refusal: a Display for all types of a trait is not to be had.
 impl fmt::Display for ProtectRefusal {
     ghost output = { λ refusal. Some (protect_text refusal) };
 
     fn fmt<W: fmt::Write>(&self, f: &mut fmt::Formatter<W>) -> fmt::Result {
-        let reason = match self {
-            ProtectRefusal::WrongMark => "the mark is below the present one or above the size",
-        };
-        write!(f, "refused {}: {reason}", self.number())
+        write!(f, "refused {}: {}", self.number(), self.reason())
     }
 }
 

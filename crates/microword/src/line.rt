@@ -39,7 +39,7 @@ fn read_digits(digits: &str) -> Option<u64>
     Some(number.min(0x10_0000_0000))
 }
 
-// The number of a text, with the prefix 0x or without; none where it is no hexadecimal number.
+// The number of a text, with the prefix 0x or without; none where it is no hexadecimal number. It takes bytes, since a line may be no text.
 #[tactic(auto, using(crate::proofs::Numerals::numeral_is_text))]
 pub fn number_in(text: &[u8]) -> Option<u64>
     ensures { ReadAs (unprefixed text.now) result }
@@ -103,7 +103,7 @@ impl fmt::Display for LineReport {
     }
 }
 
-// The report of a line, as text.
+// The report of a line, as a text of its own: the call that promises it.
 pub fn line_report(heap: Global, number: Option<u64>) -> Result<String, AllocError>
     ensures { IfOk result (λ s. string_bytes s ≡ line_report_of number) }
 {

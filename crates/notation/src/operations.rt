@@ -102,7 +102,7 @@ impl fmt::Display for Place {
     }
 }
 
-// The flag that decides.
+// The flag that decides, or the two: a name that is chosen whole is a &str.
 fn test_name(jamn: bool, jamz: bool) -> &'static str
     ensures { result.now ≡ test_text_of jamn jamz }
 {
@@ -155,7 +155,7 @@ impl fmt::Display for Operations<'_> {
     }
 }
 
-// The operations of a control word, in the notation of the textbook's slides.
+// The operations of a control word, in the notation of the textbook's slides, as a text of its own: the call that promises it.
 pub fn operations_text(heap: Global, word: &ControlWord) -> Result<String, AllocError>
     ensures { IfOk result (λ s. string_bytes s ≡ operations_text_of word.now) }
 {

@@ -6,7 +6,7 @@ ghost use Rattle.control.specs.AluTable.{function_of};
 use control::{ControlWord, Function, Source};
 use std::fmt;
 
-// A text where a flag is on, else nothing.
+// A text where a flag is on, else nothing: the two parts of the definition `when`. An Option would be made of them at each use.
 #[derive(Drop)]
 pub(crate) struct When(pub(crate) bool, pub(crate) &'static str);
 

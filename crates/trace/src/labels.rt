@@ -116,7 +116,7 @@ const LABELS: [(u16, &str); 113] = [
     (0x061, "ireturn8"),
 ];
 
-// The label of the line at an address; a free address has none.
+// The label of the line at an address, a &str that is chosen whole; a free address has none.
 pub fn label(address: u16) -> &'static str {
     LABELS
         .iter()

@@ -8,6 +8,7 @@ use std::fmt;
 struct Sum<'a>(&'a [Performed]);
 
 impl Sum<'_> {
+    // Wrapping, since nothing bounds how many there are.
     fn value(&self) -> u64 {
         self.0
             .iter()

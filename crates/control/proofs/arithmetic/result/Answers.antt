@@ -1,3 +1,4 @@
+-- The check leaves this open: the table's rows.
 use Rattle.std.proofs.Common.{◌≡◌, ◌∙◌, arith, rules}
 use Rattle.control.specs.Alu.{result_of}
 use Rattle.control.proofs.Table.{by_the_table}

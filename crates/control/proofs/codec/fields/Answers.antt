@@ -1,3 +1,4 @@
+-- The check leaves this open: the way back.
 use Rattle.std.proofs.Common.{◌≡◌, ◌/◌, ◌%◌, ◌^◌, arith, rules}
 use Rattle.control.specs.declared.control.ControlWord.{ControlWord}
 use Rattle.control.specs.Control.{fields_of}

@@ -1,3 +1,4 @@
+-- The check leaves this open: both ways.
 use Rattle.std.proofs.Common.{◌≡◌, ◌+◌, ◌*◌, Ok, sym, subst, rules}
 use Rattle.control.specs.Control.{number_of, decode_of, encode_of}
 use Rattle.control.proofs.Round.{decode_number, encode_number}

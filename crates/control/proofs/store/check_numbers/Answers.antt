@@ -1,3 +1,4 @@
+-- The check leaves this open: that all are accepted.
 use Rattle.std.proofs.Common.{◌≤◌, length, sym, ◌∙◌, arith}
 use Rattle.std.proofs.lemmas.List.{at_drop_all}
 use Rattle.control.specs.Store.{first_refused}

@@ -1,3 +1,4 @@
+-- The check leaves this open: that zeros are accepted.
 use Rattle.std.proofs.Common.{rules}
 use Rattle.control.proofs.Accepted.{zeros_accepted}
 use Rattle.control.proofs.store.zeros.Goals as goal

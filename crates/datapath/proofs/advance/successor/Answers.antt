@@ -1,3 +1,4 @@
+-- The check leaves this open: the bound.
 use Rattle.std.proofs.Common.{◌^◌, ◌<◌, arith}
 use Rattle.std.proofs.lemmas.Nat.{or_lt}
 use Rattle.datapath.proofs.advance.successor.Goals.{then-word, else-word, then-jumps, else-jumps}

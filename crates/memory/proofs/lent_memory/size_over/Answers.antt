@@ -1,3 +1,4 @@
+-- The check leaves this open: the count of the words.
 use Rattle.std.proofs.Common.{rules}
 use Rattle.memory.proofs.Words.{length-words_of}
 use Rattle.memory.proofs.lent_memory.size_over.Goals as goal

@@ -1,3 +1,4 @@
+-- The check leaves this open: what is computed from the listing.
 use Rattle.std.proofs.Common.{refl}
 use Rattle.microprogram.specs.Listing.{listing}
 use Rattle.microprogram.specs.Listing.Labels.{address}

@@ -1,3 +1,4 @@
+-- The check leaves this open: that all are digits.
 use Rattle.std.proofs.Common.{◌≡◌, rules, tests, arith}
 use Rattle.std.proofs.lemmas.Bool.Decides.{nat_tests}
 use Rattle.std.specs.Char.{is_ascii_hexdigit}

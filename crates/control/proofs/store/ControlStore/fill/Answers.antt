@@ -1,3 +1,4 @@
+-- The check leaves this open: the store's fact.
 use Rattle.std.proofs.Common.{refl}
 use Rattle.control.proofs.store.ControlStore.fill.Goals as goal
 

@@ -1,3 +1,4 @@
+-- The check leaves this open: the cycle that is refused.
 use Rattle.std.proofs.Common.{◌≡◌, Some, sym, ap, ◌∙◌, arith}
 use Rattle.datapath.specs.Go.{Gone, go_of, later}
 use Rattle.datapath.specs.Whole.{micro_of}
