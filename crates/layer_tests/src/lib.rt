@@ -9,6 +9,7 @@ use memory::{AccessRefusal, Cell, LentMemory, Memory};
 
 mod control_tests;
 mod cycle_tests;
+mod instruction_tests;
 mod memory_tests;
 
 // Copies a word to another address: proved once, for every memory.
