@@ -37,7 +37,7 @@ impl Source {
         }
     }
 
-    // The word that a source puts on the bus.
+    // The word that a source puts on the bus. MBR stands beside the registers: it has 8 bits, and the C bus does not load it.
     fn word(self, registers: &Registers, mbr: u8) -> u32
         ensures { result ≡ driven_by self registers.now mbr }
     {

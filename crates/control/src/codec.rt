@@ -29,6 +29,7 @@ fn c_bits(number: u64) -> CBits
 }
 
 // The fields of a number of 36 bits, whether or not its flags clash. The casts are proved to lose nothing; a try_from would answer a Result that is always Ok.
+// NEXT's bound is a clause, here and below, and no type, since encode takes words of any NEXT.
 pub(crate) fn fields(number: u64) -> ControlWord
     requires { number < 2 ^ 36 }
     ensures value { result ≡ fields_of number }
@@ -116,7 +117,7 @@ fn number(word: &ControlWord) -> u64
     joined(word.next, &flags(word)) * 16 + u64::from(word.b)
 }
 
-// The number of the fields; refused (7) for NEXT above 511 or B above 15, (8) for SLL8 with SRA1, (9) for WRITE with READ, in this order.
+// The number of the fields; refused (7) for NEXT above 511 or B above 15, (8) for SLL8 with SRA1, (9) for WRITE with READ, in this order. No TryFrom, as decode.
 pub fn encode(word: &ControlWord) -> Result<u64, ControlRefusal>
     ensures value { result ≡ encode_of word.now }
     ensures back { DecodesBack word.now result }

@@ -39,7 +39,7 @@ impl ControlStore {
         self.numbers.get(usize::from(address)).copied()
     }
 
-    // The control word at an address, and the word of the number 0 above 511.
+    // The control word at an address, and the word of the number 0 above 511. NEXT's bound is a clause and no type, since encode takes words of any NEXT.
     #[tactic(auto, using(crate::proofs::Accepted::held))]
     pub fn word(&self, address: u16) -> ControlWord
         ensures value { result ≡ fields_of (slice_index self.now.numbers address) }

@@ -22,7 +22,7 @@ fn successor(word: &ControlWord, mbr: u8, n: bool, z: bool) -> u16
     word.next | byte | bit_8
 }
 
-// What the C bus brings where it is loaded, else what is held.
+// What the C bus brings where it is loaded, else what is held: nine times the same choice.
 fn pick(loaded: bool, new: u32, held: u32) -> u32
     ensures { result ≡ (if loaded then new else held) }
 {

@@ -5,7 +5,7 @@ ghost use Rattle.datapath.specs.Cycle.{placed, byte_in, fetched_of, accessed_of,
 use crate::{DataAccess, Fault, FetchAccess, Port};
 use memory::{AccessRefusal, Memory};
 
-// The memory's answer; its refusal with the place where it came: what a fault has besides.
+// The memory's answer; its refusal with the place where it came: what a fault has besides. A struct of the three for one private call is no plainer.
 fn place<T>(
     answer: Result<T, AccessRefusal>,
     address: u32,

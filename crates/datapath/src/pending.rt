@@ -6,7 +6,7 @@ use memory::AccessRefusal;
 use std::error::Error;
 use std::fmt;
 
-// A read or a write under way: its word address, and the MPC that began it.
+// A read or a write under way: its word address, and the MPC that began it. A fetch has a byte address, so the two do not share a type.
 #[derive(Clone, Copy, Debug, PartialEq, Eq)]
 pub enum DataAccess {
     Read { address: u32, mpc: u16 },

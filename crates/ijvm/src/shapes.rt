@@ -69,7 +69,7 @@ fn row(
 }
 
 impl Shape {
-    // The row of a case. No From, though it cannot fail: a row is looked up, as an opcode is.
+    // The row of a case. No From, though it cannot fail: it would be the same match, and no plainer.
     pub fn of(case: Case) -> Shape
         ensures { result ≡ shape_of case }
     {

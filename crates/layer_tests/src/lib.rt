@@ -34,7 +34,7 @@ pub fn moved_in<'a, C: Cell>(buffer: &'a mut [C], from: u32, to: u32) -> &'a mut
     memory.into_cells()
 }
 
-// The lender of a buffer of words knows what it holds afterwards.
+// The lender of a buffer of words knows what it holds afterwards: the clauses of the generic call, as they read at words.
 pub fn move_in_words(buffer: &mut [u32], from: u32, to: u32)
     ensures words { usable 1 (2 ^ 32) buffer.new ≡ (moved_of (made_of 1 (2 ^ 32) buffer.old) from to).words }
     ensures unused { unused 1 buffer.new ≡ unused 1 buffer.old }

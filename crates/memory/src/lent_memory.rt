@@ -51,7 +51,7 @@ impl<'a, C: Cell> LentMemory<'a, C> {
     }
 }
 
-// How many words the memory over these cells has. The cast is proved to lose nothing.
+// How many words the memory over these cells has. The cast is proved to lose nothing; a try_from would answer a Result that is always Ok.
 fn size_over<C: Cell>(cells: &[C]) -> u32
     ensures value { result ≡ length (usable C.PER_WORD C.base (C.digits cells.now)) }
     ensures few { result ≤ 1048576 }

@@ -523,7 +523,7 @@ const PUBLISHED: [u64; 512] = [
     0x000000000,
 ];
 
-// The numbers, which fill takes.
+// The numbers, which fill takes. Apart from the store, since they are answered by hand: so a planted error in the store is refused at its contract.
 fn numbers() -> [u64; 512]
     ensures value { result ≡ published }
     ensures accepted { fill_of result ≡ Ok tt }

@@ -34,7 +34,7 @@ fn read_digits(digits: &str) -> Option<u64>
     if !is_numeral(digits) {
         return None;
     }
-    // A numeral is refused only where its number is too wide for a u64.
+    // A numeral is refused only where its number is too wide for a u64; from 2^36 on all numbers are refused alike.
     let number = u64::from_str_radix(digits, 16).unwrap_or(u64::MAX);
     Some(number.min(0x10_0000_0000))
 }
@@ -103,7 +103,7 @@ impl fmt::Display for LineReport {
     }
 }
 
-// The report of a line, as a text of its own: the call that promises it.
+// The report of a line, as a text of its own. Kept by a rule of the project, that no public promise goes; Display states the same text.
 pub fn line_report(heap: Global, number: Option<u64>) -> Result<String, AllocError>
     ensures { IfOk result (λ s. string_bytes s ≡ line_report_of number) }
 {

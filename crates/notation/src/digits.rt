@@ -33,7 +33,7 @@ impl fmt::Display for Bits {
     }
 }
 
-// The 36 bits of a control word, as a text of its own: the call that promises it.
+// The 36 bits of a control word, as a text of its own. Kept by a rule of the project, that no public promise goes; Display states the same text.
 pub fn word_text(heap: Global, number: u64) -> Result<String, AllocError>
     ensures { IfOk result (λ s. string_bytes s ≡ word_text_of number) }
 {

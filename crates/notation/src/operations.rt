@@ -155,7 +155,7 @@ impl fmt::Display for Operations<'_> {
     }
 }
 
-// The operations of a control word, in the notation of the textbook's slides, as a text of its own: the call that promises it.
+// The operations of a control word, in the notation of the textbook's slides, as a text of its own. Kept by a rule of the project, that no public promise goes; Display states the same text.
 pub fn operations_text(heap: Global, word: &ControlWord) -> Result<String, AllocError>
     ensures { IfOk result (λ s. string_bytes s ≡ operations_text_of word.now) }
 {

@@ -69,7 +69,7 @@ impl fmt::Display for PermittedFunction {
     }
 }
 
-// The left input of the ALU.
+// The left input of the ALU, a name that is chosen whole.
 fn left_name(word: &ControlWord) -> &'static str
     ensures { result.now ≡ left_text_of word.now }
 {
@@ -81,7 +81,7 @@ fn left_name(word: &ControlWord) -> &'static str
     }
 }
 
-// The right input of the ALU.
+// The right input of the ALU, a name that is chosen whole.
 fn right_name(word: &ControlWord, source: &'static str) -> &'static str
     ensures { result.now ≡ right_text_of word.now source.now }
 {

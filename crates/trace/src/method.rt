@@ -37,7 +37,7 @@ impl Opcode {
 
     pub const IRETURN: Opcode = Opcode(0xAC);
 
-    // The name of the instruction.
+    // The name of the instruction: a &str that is chosen whole, which Display then writes.
     fn name(self) -> &'static str
         ensures { result.now ≡ mnemonic_text_of self.0 }
     {

@@ -18,6 +18,7 @@ impl Sum<'_> {
 
 impl fmt::Display for Sum<'_> {
     fn fmt<W: fmt::Write>(&self, f: &mut fmt::Formatter<W>) -> fmt::Result {
+        // the place tells only whether a sign stands before
         for (place, done) in self.0.iter().enumerate() {
             if place > 0 {
                 write!(f, " + ")?;
