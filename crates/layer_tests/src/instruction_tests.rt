@@ -129,7 +129,7 @@ mod tests {
     }
 
     // what was left by one instruction: how many cycles it took, the state, and the words 9, 10 and 12 to 18
-    #[derive(Clone, Copy)]
+    #[derive(Drop)]
     struct Left {
         cycles: u64,
         state: State,
@@ -165,6 +165,7 @@ mod tests {
         let mut machine = Datapath::power(memory, registers, bytes[0], 0x100);
         let store = published_store();
         let mut cycles = 0;
+        // a bound: more cycles than any instruction takes
         for done in 1..=100u64 {
             assert_eq!(rt; machine.cycle(&store), Ok(()));
             if machine.state().mpc == 0x100 {
