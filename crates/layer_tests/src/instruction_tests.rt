@@ -128,7 +128,7 @@ mod tests {
         assert_eq!(rt; performed_instructions_add_up(&[]), 0);
     }
 
-    // what was left by one instruction: how many cycles it took, the state, and the words 9, 10 and 12 to 18
+    // what was left by one instruction: how many cycles it took, the state, and the words
     #[derive(Drop)]
     struct Left {
         cycles: u64,
