@@ -6,8 +6,8 @@ use crate::State;
 // No impl Model: it would hide the memory, whose loan the contracts name.
 #[derive(Drop)]
 pub struct Datapath<M> {
-    pub(crate) memory: M,
-    pub(crate) state: State,
+    pub memory: M,
+    pub state: State,
     // MPC is an address of the control store
     pub ghost within: { state.mpc < 2 ^ 9 },
 }

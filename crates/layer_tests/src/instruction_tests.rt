@@ -3,7 +3,7 @@
 mod tests {
     use control::Registers;
     use datapath::{Datapath, State};
-    use ijvm::{
+    use instructions::{
         Case, Opcode, Shape, Stack, StepRefusal, Variable, Way, a_turn_takes_51_cycles,
         cycle_table, performed_instructions_add_up, the_loop_takes, the_summing_method_takes,
     };

@@ -28,7 +28,7 @@ pub fn method_words(turns: u8) -> [u32; 32]
     words
 }
 
-// An opcode, displayed as the name of its instruction: any byte, since those that are none are displayed too. (trace does not rest on the opcodes of ijvm, which name cases.)
+// An opcode, displayed as the name of its instruction: any byte, since those that are none are displayed too. (trace does not rest on the opcodes of instructions, which name cases.)
 #[derive(Clone, Copy, Debug, PartialEq, Eq)]
 pub struct Opcode(pub u8);
 

@@ -1,0 +1,9 @@
+// The instruction machine as a datapath shows it, and what a step asks before it performs an instruction.
+#![tactic(auto)]
+
+mod frame;
+mod reads;
+mod rows;
+mod shown;
+
+pub use shown::Shown;

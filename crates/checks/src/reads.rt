@@ -1,0 +1,63 @@
+// What is read of the memory, with a write under way counted as done.
+ghost use Rattle.std.specs.Prelude.{◌≡◌, ◌^◌, ◌<◌};
+ghost use Rattle.datapath.specs.Cycle.{byte_in};
+ghost use Rattle.instructions.specs.Machine.{word_at, byte_at, short_at};
+ghost use Rattle.checks.specs.Shown.{seen, word_there};
+
+use crate::Shown;
+use datapath::DataAccess;
+use memory::Memory;
+
+// The byte at a byte address, of its word, the most significant first.
+fn byte_of(word: u32, address: u64) -> u8
+    ensures { result ≡ byte_in word address }
+{
+    word.to_be_bytes()[(address % 4) as usize]
+}
+
+impl<M: Memory> Shown<'_, M> {
+    // The word at an address, if there is one.
+    pub fn look(&self, address: u32) -> Option<u32>
+        ensures { result ≡ word_there (seen M.Memory.meaning self.now) address }
+    {
+        let held = self.datapath.memory.read(address).ok()?;
+        match self.datapath.state.access {
+            Some(
+                DataAccess::Write {
+                    address: written,
+                    word,
+                    ..
+                },
+            ) if written == address => Some(word),
+            _ => Some(held),
+        }
+    }
+
+    // The word at an address that may lie past every memory; 0 where there is none.
+    #[tactic(auto, using(crate::proofs::Words::looked_up, crate::proofs::Words::past_the_end))]
+    pub(crate) fn word(&self, address: u64) -> u32
+        ensures { result ≡ word_at (seen M.Memory.meaning self.now) address }
+    {
+        if address < u64::from(self.datapath.memory.size()) {
+            self.look(address as u32).unwrap_or(0)
+        } else {
+            0
+        }
+    }
+
+    // The byte at a byte address.
+    #[tactic(auto, using(crate::proofs::Words::byte_in_word))]
+    pub(crate) fn byte(&self, address: u64) -> u8
+        ensures { result ≡ byte_at (seen M.Memory.meaning self.now) address }
+    {
+        byte_of(self.word(address / 4), address)
+    }
+
+    // The unsigned number in two bytes.
+    pub(crate) fn short(&self, address: u64) -> u16
+        requires { address < 2 ^ 63 }
+        ensures { result ≡ short_at (seen M.Memory.meaning self.now) address }
+    {
+        u16::from_be_bytes([self.byte(address), self.byte(address + 1)])
+    }
+}

@@ -1,7 +1,0 @@
-use Rattle.std.proofs.Common.{◌≡◌, ◌+◌, ◌%◌, ◌^◌, ◌<◌, drop}
-use Rattle.ijvm.specs.Performed.{total}
-use Rattle.ijvm.proofs.theorems.performed_instructions_add_up.Given as goal
-
--- what is left, added to the sum so far, gives the whole
-abbrev pub invariant-loop-case : goal.invariant-loop-case
-invariant-loop-case l = (l.sum < 2 ^ 64) × ((l.sum + total (drop l.case-index l.cases)) % 2 ^ 64 ≡ total l.cases % 2 ^ 64)
