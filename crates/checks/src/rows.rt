@@ -1,7 +1,7 @@
 // The case that an opcode is, and the checks that a step makes of it.
 ghost use Rattle.std.specs.Prelude.{◌≡◌, ◌^◌, ◌<◌, Ok};
-ghost use Rattle.instructions.specs.Step.{wide_of, case_of, whole, in_pool, callable, needed_of, has_variable, was_called, has_room, lands_in, checked, allowed_of, step_of};
-ghost use Rattle.instructions.specs.Machine.{deep_enough};
+ghost use Rattle.instructions.specs.Step.{wide_of, case_of, whole, in_pool, callable, needed_of, has_variable, was_called, has_room, lands_in, allowed_of, step_of};
+ghost use Rattle.instructions.specs.Checks.{checked};
 ghost use Rattle.checks.specs.Shown.{seen};
 
 use crate::Shown;

@@ -13,8 +13,10 @@ use Rattle.instructions.specs.declared.shapes.Shape.{Shape}
 use Rattle.instructions.specs.Machine.{Ijvm, byte_at, short_at, in_code, is_variable, link_of, top_of, second_of, method_of, params_of}
 use Rattle.instructions.specs.Table.{row_of, shape_of, variable_of, next_pc}
 use Rattle.instructions.specs.Opcodes.{Entry, entries, find, opcode_of}
-use Rattle.instructions.specs.Step.{wide_of, case_of, callable, has_variable, was_called, lands_in, Check, checks_of, checked, first_refusal, allowed_of, unless_refused, checked_case, step_of}
+use Rattle.instructions.specs.Step.{wide_of, case_of, callable, has_variable, was_called, lands_in, checks_of, allowed_of, unless_refused, checked_case, step_of}
 use Rattle.instructions.proofs.Pairs.{◌⨾◌}
+use Rattle.instructions.specs.Checks.{first_refusal}
+use Rattle.instructions.proofs.Checked.{AllPass, all_pass, none_refuses}
 use Rattle.instructions.specs.Applies.{Condition, InPool, Callable, VariableAt, HasVariable, WasCalled, LandsIn, Allowed, Applies, PerformedWhereItApplies}
 
 -- A refusal is no success.
@@ -76,23 +78,6 @@ module _ (s : Ijvm) where
   landing_tests : (o : Option ℕ) → Tests (lands_in s o) (LandsIn s o)
   landing_tests None = record { holds = λ e. false≢true e; shows = λ f. absurd f }
   landing_tests (Some a) = below a (4 * s.mark)
-
--- Nothing is refused exactly where all checks pass.
-abbrev AllPass : List Check → Type 0
-AllPass [] = Unit {0}
-AllPass (c ∷ rest) = (c.passes ≡ true) × AllPass rest
-
-all_pass : (l : List Check) → first_refusal l ≡ Ok tt → AllPass l
-all_pass [] e = tt
-all_pass (c ∷ rest) e = by c.passes e (all_pass rest)
-  where
-    by : (b : Bool) → checked b c.refusal (first_refusal rest) ≡ Ok tt → (first_refusal rest ≡ Ok tt → AllPass rest) → (b ≡ true) × AllPass rest
-    by true h more = (refl, more h)
-    by false h more = absurd (not_ok c.refusal tt h)
-
-none_refuses : (l : List Check) → AllPass l → first_refusal l ≡ Ok tt
-none_refuses [] p = refl
-none_refuses (c ∷ rest) (e, p) = rw e (none_refuses rest p)
 
 -- The eight checks, for any row.
 pub allowed_of_lem : (s : Ijvm) (h : Shape) → allowed_of s h ≡ Ok tt → Allowed s h

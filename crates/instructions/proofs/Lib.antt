@@ -1,4 +1,5 @@
 pub mod Pairs
+pub mod Checked
 pub mod Applied
 pub mod Bytes
 pub mod Steady

@@ -2,6 +2,7 @@ pub mod Machine
 pub mod Table
 pub mod Opcodes
 pub mod Refusals
+pub mod Checks
 pub mod Step
 pub mod Applies
 pub mod Stands

@@ -12,6 +12,7 @@ use Rattle.instructions.specs.declared.shapes.Way.{Way}
 use Rattle.instructions.specs.declared.shapes.Way.TheVariants.{On, Branch, Return, Call}
 use Rattle.instructions.specs.declared.shapes.Shape.{Shape}
 use Rattle.instructions.specs.Machine.{Ijvm, size_of, byte_at, short_at, in_code, deep_enough, is_variable, top_of, second_of, method_of, params_of}
+use Rattle.instructions.specs.Checks.{Check, ◌else◌, first_refusal}
 use Rattle.instructions.specs.Opcodes.{opcode_of}
 use Rattle.instructions.specs.Table.{row_of, shape_of, variable_of, new_sp, next_pc}
 
@@ -76,17 +77,8 @@ abbrev pub lands_in : Ijvm → Option ℕ → Bool
 lands_in s None = false
 lands_in s (Some a) = in_code s a
 
--- A check, and the refusal where it fails.
-pub record Check : Type 0 where
-  pub passes : Bool
-  pub refusal : StepRefusal
-
-infixr 75 ◌else◌
-abbrev pub ◌else◌ : Bool → StepRefusal → Check
-passes else refusal = record { passes = passes; refusal = refusal }
-
 -- The checks of a case, in the order in which they are made.
-abbrev pub checks_of : Ijvm → Shape → List Check
+abbrev pub checks_of : Ijvm → Shape → List (Check StepRefusal)
 checks_of s h =
     whole s h else OutsideCode
     ∷ (in_pool s h else NotInPool
@@ -97,15 +89,6 @@ checks_of s h =
     ∷ (has_room s h else NoRoom
     ∷ (lands_in s (next_pc s h.bytes h.way) else NextOutside
     ∷ [])))))))
-
--- The first check that fails refuses.
-abbrev pub checked : Bool → StepRefusal → Result (Unit {0}) StepRefusal → Result (Unit {0}) StepRefusal
-checked true refusal rest = rest
-checked false refusal rest = Err refusal
-
-abbrev pub first_refusal : List Check → Result (Unit {0}) StepRefusal
-first_refusal [] = Ok tt
-first_refusal (c ∷ rest) = checked c.passes c.refusal (first_refusal rest)
 
 abbrev pub allowed_of : Ijvm → Shape → Result (Unit {0}) StepRefusal
 allowed_of s h = first_refusal (checks_of s h)

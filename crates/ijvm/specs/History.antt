@@ -1,0 +1,54 @@
+-- What a machine has come to since its program was loaded.
+use Rattle.std.specs.Prelude.{◌≡◌, ℕ, ◌%◌, ◌^◌, List, [], ◌++◌, Some, None, Ok, Result}
+use Rattle.datapath.specs.Cycle.{Micro}
+use Rattle.datapath.specs.Go.{go_of}
+use Rattle.microprogram.specs.Published.{published}
+use Rattle.instructions.specs.declared.cases.Case.{Case}
+use Rattle.instructions.specs.Machine.{Ijvm}
+use Rattle.instructions.specs.Stands.{Stands, Takes}
+use Rattle.instructions.specs.Sound.{Sound}
+use Rattle.instructions.specs.Performed.{Performs, after, total}
+use Rattle.instructions.specs.Nest.{Nested}
+use Rattle.ijvm.specs.declared.numbers.Numbers.{Numbers}
+use Rattle.ijvm.specs.Kit.{Kit}
+use Rattle.ijvm.specs.Start.{start_of, fresh_of}
+use Rattle.ijvm.specs.Turns.{Turn}
+
+-- A beginning: a Mic-1 with its program just loaded, and the state of the instruction machine that it is started in.
+pub record Beginning : Type 0 where
+  pub fresh : Micro
+  pub start : Ijvm
+
+-- That of a program, by its numbers and its protected words.
+abbrev pub beginning_of : Numbers → (ℕ → ℕ) → Beginning
+beginning_of n word = record { fresh = fresh_of n word; start = start_of n word }
+
+-- The state is sound, the Mic-1 stands for it, and its counter is 0.
+pub record Begun (b : Beginning) : Type 0 where
+  pub sound : Sound b.start
+  pub stands : Stands b.fresh b.start
+  pub zero : b.fresh.state.counter ≡ 0
+
+-- Since a beginning a machine has performed these instructions, which lead the instruction machine to this state.
+pub record Came (b : Beginning) (cases : List Case) (s : Ijvm) (k : Kit) : Type 0 where
+  pub begun : Begun b
+  -- the instruction machine performs them, from its start to this state
+  pub performs : Performs cases b.start s
+  -- the machine is loaded, with the same pool count, and stands for this state now
+  pub loaded : k.pool ≡ Some s.pool
+  pub stands : Stands k.micro s
+  -- it is as many cycles from its beginning as the sum of the table's entries, none of them refused, and so says the counter
+  pub cycles : go_of published (total cases) b.fresh ≡ record { done = total cases; fault = None; after = k.micro }
+  pub counter : k.micro.state.counter ≡ total cases % 2 ^ 64
+  -- so it is of each front part: the sum of its entries in cycles leads to a machine that stands for the state after it
+  pub fronts : (front rest : List Case) → cases ≡ front ++ rest → Takes (total front) b.fresh (after front b.start)
+  -- calls nest
+  pub nested : Nested b.start cases
+
+-- A call goes on with whatever a machine had come to: it answers what the instruction machine answers in its turn, and the machine comes on by the instructions that this performs.
+pub record GoesOn {A : Type 0} (turn : Ijvm → Turn A) (answer : A) (before after : Kit) (b : Beginning) (cases : List Case) (s : Ijvm) : Type 0 where
+  pub same_answer : answer ≡ (turn s).answer
+  pub came : Came b (cases ++ (turn s).performed) (turn s).state after
+
+abbrev pub Continues : {A : Type 0} → (Ijvm → Turn A) → A → Kit → Kit → Type 0
+Continues turn answer before after = (b : Beginning) (cases : List Case) (s : Ijvm) → Came b cases s before → GoesOn turn answer before after b cases s

@@ -1,0 +1,67 @@
+-- The start of a program: what load leaves where it is accepted.
+use Rattle.std.specs.Prelude.{ℕ, ◌+◌, ◌-◌, ◌/◌, List, [], ◌∷◌, ◌++◌, length, map, replicate, Some, None, Ok, Err, Result, ◌==◌, slice_set}
+use Rattle.std.specs.List.{range_with_len}
+use Rattle.memory.specs.Meaning.{Meaning, size_of}
+use Rattle.control.specs.declared.register_file.Registers.{Registers}
+use Rattle.datapath.specs.declared.machine_state.State.{State}
+use Rattle.datapath.specs.Cycle.{Micro}
+use Rattle.instructions.specs.Machine.{Ijvm, byte_of}
+use Rattle.instructions.specs.Checks.{Check, ◌else◌, first_refusal}
+use Rattle.ijvm.specs.declared.numbers.Numbers.{Numbers}
+use Rattle.ijvm.specs.declared.refusal.StartRefusal.{StartRefusal}
+use Rattle.ijvm.specs.declared.refusal.StartRefusal.TheVariants.{OtherSize, Marked}
+use Rattle.ijvm.specs.Kit.{Kit}
+
+-- What is asked of the memory, in order: 25, it has the size that the program is for; 26, its mark is 0.
+abbrev pub memory_checks : Numbers → Meaning → List (Check StartRefusal)
+memory_checks n m = (size_of m == n.size) else OtherSize ∷ ((m.mark == 0) else Marked ∷ [])
+
+-- The words: the protected ones, then zeros; at the mark stands main's link, which is mark + 1 + locals.
+unfoldable pub start_words : Numbers → (ℕ → ℕ) → List ℕ
+start_words n word =
+    slice_set (map word (range_with_len 0 n.mark) ++ replicate (n.size - n.mark) 0) n.mark (n.mark + 1 + n.locals)
+
+-- Main is started: LV is the mark, SP is mark + locals + 2, PC is main + 4; CPP and the pool count are the program's.
+abbrev pub start_of : Numbers → (ℕ → ℕ) → Ijvm
+start_of n word = record {
+  pc = n.main + 4;
+  sp = n.mark + n.locals + 2;
+  lv = n.mark;
+  words = start_words n word;
+  cpp = n.cpp;
+  pool = n.pool;
+  mark = n.mark;
+}
+
+-- The Mic-1 that is started: the words are protected up to the mark, MBR is the byte at PC, MPC is 0x100, the counter and all other registers are 0, and nothing is under way.
+abbrev pub fresh_of : Numbers → (ℕ → ℕ) → Micro
+fresh_of n word = record {
+  memory = record { words = start_words n word; mark = n.mark };
+  state = record {
+    registers = record {
+      h = 0;
+      opc = 0;
+      tos = 0;
+      cpp = n.cpp;
+      lv = n.mark;
+      sp = n.mark + n.locals + 2;
+      pc = n.main + 4;
+      mdr = 0;
+      mar = 0;
+    };
+    mbr = byte_of (start_words n word) (n.main + 4);
+    mpc = 0x100;
+    counter = 0;
+    access = None;
+    fetch = None;
+  };
+}
+
+-- The machine, loaded.
+abbrev pub started_of : Numbers → (ℕ → ℕ) → Kit
+started_of n word = record { micro = fresh_of n word; pool = Some n.pool }
+
+-- The machine after a start; one that is refused changes nothing.
+abbrev pub after_start : Numbers → (ℕ → ℕ) → Kit → Result (Unit {0}) StartRefusal → Kit
+after_start n word k (Ok _) = started_of n word
+after_start n word k (Err refusal) = k

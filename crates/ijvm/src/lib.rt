@@ -1,0 +1,16 @@
+// The machine of the kit: a datapath with the published microprogram, and the program that load left in it.
+#![tactic(auto)]
+
+mod answers;
+mod layout;
+mod machine_type;
+mod numbers;
+mod program;
+mod refusal;
+
+pub use answers::Ran;
+pub use layout::Layout;
+pub use machine_type::Machine;
+pub use numbers::Numbers;
+pub use program::Program;
+pub use refusal::{LookRefusal, StartRefusal};

@@ -1,0 +1,68 @@
+-- The image of a program: blocks of 512 bytes, each 128 words.
+use Rattle.std.specs.Prelude.{◌≡◌, ℕ, ◌+◌, ◌-◌, ◌*◌, ◌/◌, ◌%◌, ◌^◌, Bool, cond, not, ◌||◌, List, length, sum_by, position, Option, ◌==◌, nat_lt, slice_index}
+use Rattle.std.specs.List.{range_with_len}
+use Rattle.std.specs.Int.Digits.{number_from_digits}
+use Rattle.datapath.specs.Cycle.{byte_in}
+use Rattle.ijvm.specs.declared.numbers.Numbers.{Numbers}
+use Rattle.memory.specs.Cells.{word_at}
+
+-- A word of the image: four bytes in a row, the most significant first.
+abbrev pub word_of : List ℕ → ℕ → ℕ
+word_of bytes i = word_at 4 (2 ^ 8) bytes i
+
+-- How many blocks there are.
+abbrev pub blocks_of : List ℕ → ℕ
+blocks_of bytes = length bytes / 512
+
+-- The 128 words of block number k, the last of them its check, added up.
+abbrev pub block_sum : List ℕ → ℕ → ℕ
+block_sum bytes k = sum_by (word_of bytes) (range_with_len (128 * k) 128)
+
+-- They add up to k, modulo 2^32.
+abbrev pub adds_up : List ℕ → ℕ → Bool
+adds_up bytes k = block_sum bytes k % 2 ^ 32 == k % 2 ^ 32
+
+-- The first block that does not add up, if there is one.
+abbrev pub failed_block : List ℕ → Option ℕ
+failed_block bytes = position (λ k. not (adds_up bytes k)) (range_with_len 0 (blocks_of bytes))
+
+-- A protected word: the later blocks carry them in order, 127 each, before the block's check.
+abbrev pub protected_of : List ℕ → ℕ → ℕ
+protected_of bytes a = word_of bytes (128 * (1 + a / 127) + a % 127)
+
+-- The byte of the protected words at a byte address, and the unsigned number in two of them.
+abbrev pub code_byte : List ℕ → ℕ → ℕ
+code_byte bytes a = byte_in (protected_of bytes (a / 4)) a
+
+abbrev pub code_short : List ℕ → ℕ → ℕ
+code_short bytes a = code_byte bytes a * 2 ^ 8 + code_byte bytes (a + 1)
+
+-- Block 0 holds the number of blocks in word 0, size in 1, mark in 2, CPP in 3, the pool count in 4, main's byte address in 5. Main's locals stand in the code, behind its params.
+abbrev pub numbers_of : List ℕ → Numbers
+numbers_of bytes = record {
+  size = word_of bytes 1;
+  mark = word_of bytes 2;
+  cpp = word_of bytes 3;
+  pool = word_of bytes 4;
+  main = word_of bytes 5;
+  locals = code_short bytes (word_of bytes 5 + 2);
+}
+
+-- Main's params.
+abbrev pub params_of : List ℕ → ℕ
+params_of bytes = code_short bytes (word_of bytes 5)
+
+-- As many blocks as carry so many protected words: block 0, and one for each 127 words, rounded up.
+abbrev pub blocks_for : ℕ → ℕ
+blocks_for mark = 1 + (mark + 126) / 127
+
+-- The words that are used: each block's check, the six numbers of block 0, and the protected words.
+abbrev pub is_used : (mark : ℕ) → ℕ → Bool
+is_used mark i = (i % 128 == 127) || cond (nat_lt i 128) (nat_lt i 6) (nat_lt (127 * (i / 128 - 1) + i % 128) mark)
+
+-- All other bytes are zero.
+abbrev pub is_clean : (mark : ℕ) → List ℕ → ℕ → Bool
+is_clean mark bytes b = is_used mark (b / 4) || slice_index bytes b == 0
+
+abbrev pub first_unclean : (mark : ℕ) → List ℕ → Option ℕ
+first_unclean mark bytes = position (λ b. not (is_clean mark bytes b)) (range_with_len 0 (length bytes))

@@ -1,0 +1,39 @@
+-- The refusals of load, by their numbers in the manual, with what each carries.
+use Rattle.std.specs.Prelude.{ℕ, List, ◌++◌, Some, None, Option, codes, decimal}
+use Rattle.ijvm.specs.declared.refusal.StartRefusal.{StartRefusal}
+use Rattle.ijvm.specs.declared.refusal.StartRefusal.TheVariants.{OtherSize as StartOtherSize, Marked as StartMarked}
+use Rattle.image.specs.declared.refusal.Place.{Place}
+use Rattle.image.specs.declared.refusal.Place.TheVariants.{Size, Mark, Pool, Main}
+use Rattle.image.specs.declared.refusal.LoadRefusal.{LoadRefusal}
+use Rattle.image.specs.declared.refusal.LoadRefusal.TheVariants.{WrongLength, FailedCheck, WrongCount, WrongNumber, NotZero, OtherSize, Marked}
+
+abbrev pub load_number : LoadRefusal → ℕ
+load_number WrongLength = 20
+load_number (FailedCheck block) = 21
+load_number WrongCount = 22
+load_number (WrongNumber place) = 23
+load_number NotZero = 24
+load_number OtherSize = 25
+load_number Marked = 26
+
+-- 23 carries the place of the number: 1 size, 2 mark, 3 pool, 5 main.
+abbrev pub place_number : Place → ℕ
+place_number Size = 1
+place_number Mark = 2
+place_number Pool = 3
+place_number Main = 5
+
+-- What a refusal carries: 21 the block, 23 the place, the others nothing.
+abbrev pub load_detail : LoadRefusal → Option ℕ
+load_detail WrongLength = None
+load_detail (FailedCheck block) = Some block
+load_detail WrongCount = None
+load_detail (WrongNumber place) = Some (place_number place)
+load_detail NotZero = None
+load_detail OtherSize = None
+load_detail Marked = None
+
+-- The refusals that the memory gives cause for.
+abbrev pub of_start : StartRefusal → LoadRefusal
+of_start StartOtherSize = OtherSize
+of_start StartMarked = Marked

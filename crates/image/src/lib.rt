@@ -1,0 +1,6 @@
+// The image of a program: its blocks and checks, load, and the call over a list of calls.
+#![tactic(auto)]
+
+mod refusal;
+
+pub use refusal::{LoadRefusal, Place};
