@@ -45,10 +45,11 @@ pub record Came (b : Beginning) (cases : List Case) (s : Ijvm) (k : Kit) : Type 
   -- calls nest
   pub nested : Nested b.start cases
 
--- A call goes on with whatever a machine had come to: it answers what the instruction machine answers in its turn, and the machine comes on by the instructions that this performs.
-pub record GoesOn {A : Type 0} (turn : Ijvm → Turn A) (answer : A) (before after : Kit) (b : Beginning) (cases : List Case) (s : Ijvm) : Type 0 where
-  pub same_answer : answer ≡ (turn s).answer
-  pub came : Came b (cases ++ (turn s).performed) (turn s).state after
+-- A call goes on from there: it answers what the instruction machine answers in its turn, and the machine comes on by the instructions that this performs.
+pub record GoesOn {A : Type 0} (turn : Turn A) (b : Beginning) (cases : List Case) (answer : A) (after : Kit) : Type 0 where
+  pub same_answer : answer ≡ turn.answer
+  pub came : Came b (cases ++ turn.performed) turn.state after
 
-abbrev pub Continues : {A : Type 0} → (Ijvm → Turn A) → A → Kit → Kit → Type 0
-Continues turn answer before after = (b : Beginning) (cases : List Case) (s : Ijvm) → Came b cases s before → GoesOn turn answer before after b cases s
+-- So it is with whatever the machine had come to before the call.
+unfoldable pub Continues : {A : Type 0} → (Ijvm → Turn A) → A → (before after : Kit) → Type 0
+Continues turn answer before after = (b : Beginning) (cases : List Case) (s : Ijvm) → Came b cases s before → GoesOn (turn s) b cases answer after

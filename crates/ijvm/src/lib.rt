@@ -2,6 +2,7 @@
 #![tactic(auto)]
 
 mod answers;
+mod calls;
 mod layout;
 mod machine_type;
 mod numbers;
