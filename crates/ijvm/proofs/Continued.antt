@@ -35,7 +35,7 @@ total_both (c ∷ p) q = let i = total_both p q in omega arith
 
 module _ (b : Beginning) where
   -- nothing performed, and the same machine
-  same : (cases : List Case) (s : Ijvm) (k : Kit) → Came b cases s k → Came b (cases ++ []) s k
+  pub same : (cases : List Case) (s : Ijvm) (k : Kit) → Came b cases s k → Came b (cases ++ []) s k
   same cases s k h = subst (λ (cs : List Case). Came b cs s k) (sym (append-nil cases)) h
 
   -- one instruction more

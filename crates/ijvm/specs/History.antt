@@ -10,6 +10,7 @@ use Rattle.instructions.specs.Sound.{Sound}
 use Rattle.instructions.specs.Performed.{Performs, after, total}
 use Rattle.instructions.specs.Nest.{Nested}
 use Rattle.ijvm.specs.declared.numbers.Numbers.{Numbers}
+use Rattle.ijvm.specs.declared.refusal.StartRefusal.{StartRefusal}
 use Rattle.ijvm.specs.Kit.{Kit}
 use Rattle.ijvm.specs.Start.{start_of, fresh_of}
 use Rattle.ijvm.specs.Turns.{Turn}
@@ -44,6 +45,10 @@ pub record Came (b : Beginning) (cases : List Case) (s : Ijvm) (k : Kit) : Type 
   pub fronts : (front rest : List Case) → cases ≡ front ++ rest → Takes (total front) b.fresh (after front b.start)
   -- calls nest
   pub nested : Nested b.start cases
+
+-- After an accepted load a machine has come to its program's start, with nothing performed.
+unfoldable pub Begins : Numbers → (ℕ → ℕ) → Result (Unit {0}) StartRefusal → (after : Kit) → Type 0
+Begins n word answer after = answer ≡ Ok tt → Came (beginning_of n word) [] (start_of n word) after
 
 -- A call goes on from there: it answers what the instruction machine answers in its turn, and the machine comes on by the instructions that this performs.
 pub record GoesOn {A : Type 0} (turn : Turn A) (b : Beginning) (cases : List Case) (answer : A) (after : Kit) : Type 0 where

@@ -1,5 +1,5 @@
 -- The start of a program: what load leaves where it is accepted.
-use Rattle.std.specs.Prelude.{ℕ, ◌+◌, ◌-◌, ◌/◌, List, [], ◌∷◌, ◌++◌, length, map, replicate, Some, None, Ok, Err, Result, ◌==◌, slice_set}
+use Rattle.std.specs.Prelude.{ℕ, ◌+◌, ◌*◌, ◌<◌, ◌≤◌, cond, List, [], ◌∷◌, length, map, Some, None, Ok, Err, Result, ◌==◌, nat_lt, slice_set}
 use Rattle.std.specs.List.{range_with_len}
 use Rattle.memory.specs.Meaning.{Meaning, size_of}
 use Rattle.control.specs.declared.register_file.Registers.{Registers}
@@ -12,14 +12,27 @@ use Rattle.ijvm.specs.declared.refusal.StartRefusal.{StartRefusal}
 use Rattle.ijvm.specs.declared.refusal.StartRefusal.TheVariants.{OtherSize, Marked}
 use Rattle.ijvm.specs.Kit.{Kit}
 
+-- Numbers by which a program can be started: a memory can have the size, the mark lies inside it, the pool lies below the mark, main's first instruction lies in code, and main's SP lies inside the memory.
+pub record Fits (n : Numbers) : Type 0 where
+  pub few : n.size ≤ 1048576
+  pub within : n.mark < n.size
+  pub pool_in : n.cpp + n.pool ≤ n.mark
+  pub main_in : n.main + 4 < 4 * n.mark
+  pub room : n.mark + n.locals + 2 < n.size
+
 -- What is asked of the memory, in order: 25, it has the size that the program is for; 26, its mark is 0.
 abbrev pub memory_checks : Numbers → Meaning → List (Check StartRefusal)
 memory_checks n m = (size_of m == n.size) else OtherSize ∷ ((m.mark == 0) else Marked ∷ [])
 
--- The words: the protected ones, then zeros; at the mark stands main's link, which is mark + 1 + locals.
+-- The words: below the mark the protected ones, from there on zeros; then at the mark stands main's link, which is mark + 1 + locals.
+abbrev pub filled_word : Numbers → (ℕ → ℕ) → ℕ → ℕ
+filled_word n word a = cond (nat_lt a n.mark) (word a) 0
+
+abbrev pub filled_words : Numbers → (ℕ → ℕ) → List ℕ
+filled_words n word = map (filled_word n word) (range_with_len 0 n.size)
+
 unfoldable pub start_words : Numbers → (ℕ → ℕ) → List ℕ
-start_words n word =
-    slice_set (map word (range_with_len 0 n.mark) ++ replicate (n.size - n.mark) 0) n.mark (n.mark + 1 + n.locals)
+start_words n word = slice_set (filled_words n word) n.mark (n.mark + 1 + n.locals)
 
 -- Main is started: LV is the mark, SP is mark + locals + 2, PC is main + 4; CPP and the pool count are the program's.
 abbrev pub start_of : Numbers → (ℕ → ℕ) → Ijvm

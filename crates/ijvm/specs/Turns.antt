@@ -7,6 +7,11 @@ use Rattle.instructions.specs.Table.{cycles_of, effect_of}
 use Rattle.instructions.specs.Step.{step_of}
 use Rattle.ijvm.specs.declared.answers.Ran.{Ran}
 use Rattle.ijvm.specs.declared.refusal.LookRefusal.{LookRefusal}
+use Rattle.ijvm.specs.declared.numbers.Numbers.{Numbers}
+use Rattle.ijvm.specs.declared.refusal.StartRefusal.{StartRefusal}
+use Rattle.instructions.specs.Checks.{first_refusal}
+use Rattle.memory.specs.Meaning.{Meaning}
+use Rattle.ijvm.specs.Start.{memory_checks}
 use Rattle.ijvm.specs.Calls.{look_at}
 
 -- A turn of the instruction machine.
@@ -42,3 +47,7 @@ run_turn (suc n) s = run_turn_by (run_turn n) s (step_of s)
 -- A look answers the word, or refuses 4.
 abbrev pub look_turn : ℕ → Ijvm → Turn (Result ℕ LookRefusal)
 look_turn a s = still (look_at s a) s
+
+-- A later load is refused, by what is asked of the memory: with 26 at the latest, as the mark is above 0.
+abbrev pub start_turn : Numbers → Ijvm → Turn (Result (Unit {0}) StartRefusal)
+start_turn n s = still (first_refusal (memory_checks n (record { words = s.words; mark = s.mark }))) s

@@ -4,6 +4,7 @@
 mod answers;
 mod calls;
 mod layout;
+mod load;
 mod machine_type;
 mod numbers;
 mod program;

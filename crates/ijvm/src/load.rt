@@ -1,16 +1,20 @@
-// A program is started.
-ghost use Rattle.std.specs.Prelude.{◌≡◌, ◌^◌, ◌<◌, ◌-◌, ◌+◌, ◌++◌, ℕ, Ok, Err, length, map, replicate};
-ghost use Rattle.std.specs.List.{range_with_len};
+// A program is loaded.
+ghost use Rattle.std.specs.Prelude.{◌≡◌, ℕ, ◌+◌, ◌^◌, ◌<◌, Ok};
 ghost use Rattle.datapath.specs.Cycle.{byte_in};
+ghost use Rattle.memory.specs.Meaning.{size_of};
 ghost use Rattle.instructions.specs.Checks.{checked, first_refusal};
 ghost use Rattle.ijvm.specs.Kit.{kit_of};
-ghost use Rattle.ijvm.specs.Start.{memory_checks, start_words, fresh_of, after_start};
-ghost use Rattle.ijvm.specs.History.{Begins};
+ghost use Rattle.ijvm.specs.Start.{Fits, memory_checks, filled_word, filled_words, start_words, fresh_of, after_start};
+ghost use Rattle.ijvm.specs.Turns.{start_turn};
+ghost use Rattle.ijvm.specs.History.{Begins, Continues};
 
 use crate::{Layout, Machine, Numbers, Program, StartRefusal};
 use control::Registers;
 use datapath::State;
 use memory::Memory;
+
+// The line at which an instruction begins.
+const MAIN1: u16 = 0x100;
 
 // A check, and the refusal where it fails.
 fn check(passes: bool, refusal: StartRefusal) -> Result<(), StartRefusal>
@@ -20,31 +24,106 @@ fn check(passes: bool, refusal: StartRefusal) -> Result<(), StartRefusal>
 }
 
 // What is asked of the memory that a program is loaded into.
-fn fits<M: Memory>(memory: &M, numbers: &Numbers) -> Result<(), StartRefusal>
-    ensures { result ≡ first_refusal (memory_checks numbers.now (M.Memory.meaning memory.now)) }
+fn fits<M: Memory>(memory: &M, numbers: Numbers) -> Result<(), StartRefusal>
+    ensures { result ≡ first_refusal (memory_checks numbers (M.Memory.meaning memory.now)) }
 {
     check(memory.size() == numbers.size, StartRefusal::OtherSize)?;
     check(memory.mark() == 0, StartRefusal::Marked)
 }
 
-// The word at each address of a memory that is filled: a protected word, or 0 from the mark on.
-fn word_for<P: Program>(program: &P, mark: u32, address: u32) -> u32
-    ensures { result ≡ word_for_of (P.Program.words program.now) mark address }
+// The word at an address of a memory that is filled: a protected word, or 0 from the mark on.
+fn word_for<P: Program>(program: &P, numbers: Numbers, address: u32) -> u32
+    ensures { result ≡ filled_word numbers (P.Program.words program.now) address }
 {
-    if address < mark {
+    if address < numbers.mark {
         program.word(address)
     } else {
         0
     }
 }
 
-// Fills a memory of this size, of which no word is protected: with the protected words, then with zeros.
-fn fill<M: Memory, P: Program>(memory: &mut M, program: &P, numbers: &Numbers)
-    requires size { (M.Memory.meaning memory.old) .size ≡ numbers.size }
-    ensures { tt ≡ tt }
+// Fills a memory of this size, of which no word is protected.
+#[tactic(auto, using(crate::proofs::Started::by_each))]
+fn fill<M: Memory, P: Program>(memory: &mut M, program: &P, numbers: Numbers)
+    requires size { size_of (M.Memory.meaning memory.old) ≡ numbers.size }
+    requires open_to { (M.Memory.meaning memory.old).mark ≡ 0 }
+    ensures words { (M.Memory.meaning memory.new).words ≡ filled_words numbers (P.Program.words program.now) }
+    ensures mark { (M.Memory.meaning memory.new).mark ≡ 0 }
+    ensures small { (a : ℕ) → a < numbers.size → filled_word numbers (P.Program.words program.now) a < 2 ^ 32 }
+    ensures loan { M.Memory.loan memory.new ≡ M.Memory.loan memory.old }
 {
     for address in 0..numbers.size {
         // not refused: the address is below the size, and no word is protected
-        let _ = memory.write(address, word_for(program, numbers.mark, address));
+        let _ = memory.write(address, word_for(program, numbers, address));
+    }
+}
+
+// Leaves a memory as a program starts in it: filled, protected, and main's link written at the mark.
+fn place<M: Memory, P: Program>(memory: &mut M, program: &P, layout: Layout)
+    requires size { size_of (M.Memory.meaning memory.old) ≡ layout.numbers.size }
+    requires open_to { (M.Memory.meaning memory.old).mark ≡ 0 }
+    ensures meaning { M.Memory.meaning memory.new ≡ (fresh_of layout.numbers (P.Program.words program.now)).memory }
+    ensures small { (a : ℕ) → a < layout.numbers.size → filled_word layout.numbers (P.Program.words program.now) a < 2 ^ 32 }
+    ensures loan { M.Memory.loan memory.new ≡ M.Memory.loan memory.old }
+{
+    let numbers = layout.numbers;
+    let link = numbers.mark + 1 + u32::from(numbers.locals);
+    fill(memory, program, numbers);
+    // neither is refused: the mark was 0, and it lies below the size
+    let _ = memory.protect(numbers.mark);
+    let _ = memory.write(numbers.mark, link);
+}
+
+// The state in which main starts: MBR is the byte at PC, which is a protected one.
+#[tactic(auto, using(crate::proofs::Started::first_byte))]
+fn start_state<P: Program>(program: &P, layout: Layout) -> State
+    ensures { result ≡ (fresh_of layout.numbers (P.Program.words program.now)).state }
+{
+    let numbers = layout.numbers;
+    let pc = numbers.main + 4;
+    let word = program.word(pc / 4);
+    State {
+        registers: Registers {
+            cpp: numbers.cpp,
+            lv: numbers.mark,
+            sp: numbers.mark + u32::from(numbers.locals) + 2,
+            pc,
+            ..Registers::default()
+        },
+        mbr: word.to_be_bytes()[(pc % 4) as usize],
+        mpc: MAIN1,
+        counter: 0,
+        access: None,
+        fetch: None,
+    }
+}
+
+impl<M: Memory> Machine<M> {
+    // A load, whatever the machine holds.
+    fn started<P: Program>(&mut self, program: &P) -> Result<(), StartRefusal>
+        ensures answer { result ≡ first_refusal (memory_checks (P.Program.numbers program.now) (kit_of M.Memory.meaning self.old).micro.memory) }
+        ensures after { kit_of M.Memory.meaning self.new ≡ after_start (P.Program.numbers program.now) (P.Program.words program.now) (kit_of M.Memory.meaning self.old) result }
+        ensures fits { Fits (P.Program.numbers program.now) }
+        ensures small { result ≡ Ok tt → (a : ℕ) → a < (P.Program.numbers program.now).size → filled_word (P.Program.numbers program.now) (P.Program.words program.now) a < 2 ^ 32 }
+        ensures loan { M.Memory.loan self.new.datapath.memory ≡ M.Memory.loan self.old.datapath.memory }
+    {
+        let layout = program.layout();
+        fits(&self.datapath.memory, layout.numbers)?;
+        place(&mut self.datapath.memory, program, layout);
+        self.datapath.state = start_state(program, layout);
+        self.pool = Some(layout.numbers.pool);
+        Ok(())
+    }
+
+    // Fills the memory with a program and starts its main. It refuses 25 another size of the memory, then 26 a mark that is not 0; refused, it changes nothing.
+    #[tactic(auto, using(crate::proofs::Started::load_begins, crate::proofs::Started::load_continues))]
+    pub fn load<P: Program>(&mut self, program: &P) -> Result<(), StartRefusal>
+        ensures answer { result ≡ first_refusal (memory_checks (P.Program.numbers program.now) (kit_of M.Memory.meaning self.old).micro.memory) }
+        ensures after { kit_of M.Memory.meaning self.new ≡ after_start (P.Program.numbers program.now) (P.Program.words program.now) (kit_of M.Memory.meaning self.old) result }
+        ensures begins { Begins (P.Program.numbers program.now) (P.Program.words program.now) result (kit_of M.Memory.meaning self.new) }
+        ensures continues { Continues (start_turn (P.Program.numbers program.now)) result (kit_of M.Memory.meaning self.old) (kit_of M.Memory.meaning self.new) }
+        ensures loan { M.Memory.loan self.new.datapath.memory ≡ M.Memory.loan self.old.datapath.memory }
+    {
+        self.started(program)
     }
 }
