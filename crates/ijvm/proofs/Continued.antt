@@ -99,6 +99,9 @@ module _ (b : Beginning) where
           })
       by (Err r) e more = rw (refused cases s k h r e) (record { same_answer = refl; came = same cases s k h })
 
+  pub look_goes_on : (a : ℕ) (cases : List Case) (s : Ijvm) (k : Kit) → Came b cases s k → GoesOn (look_turn a s) b cases (look_of (shows k) a) k
+  look_goes_on a cases s k h = record { same_answer = ap (λ o. look_of o a) (shows_it k s h.loaded h.stands); came = same cases s k h }
+
 -- as the calls promise it
 pub step_continues : (k next : Kit) (r : Result ℕ StepRefusal) → r ≡ (stepped_of k).answer → next ≡ (stepped_of k).after → Continues step_turn r k next
 unfolding Continues
@@ -110,4 +113,4 @@ run_continues n k next r answer after = rw (answer, after) (λ b cases s h. run_
 
 pub look_continues : (a : ℕ) (k : Kit) (r : Result ℕ LookRefusal) → r ≡ look_of (shows k) a → Continues (look_turn a) r k k
 unfolding Continues
-look_continues a k r answer b cases s h = record { same_answer = answer ∙ ap (λ o. look_of o a) (shows_it k s h.loaded h.stands); came = same b cases s k h }
+look_continues a k r answer b cases s h = let g = look_goes_on b a cases s k h in record { same_answer = answer ∙ g.same_answer; came = g.came }

@@ -133,7 +133,7 @@ load_begins n word k next r fits small after ok =
     subst (λ (x : Kit). Came (beginning_of n word) [] (start_of n word) x) (sym (after ∙ ap (after_start n word k) ok)) (came n word fits (small ok))
 
 -- a later load is refused
-settled-length : (m : Meaning) (access : Option DataAccess) → length (settled_words m access) ≡ length m.words
+pub settled-length : (m : Meaning) (access : Option DataAccess) → length (settled_words m access) ≡ length m.words
 settled-length m None = refl
 settled-length m (Some (Reading a mpc)) = refl
 settled-length m (Some (Writing a mpc w)) = length-set m.words a w
