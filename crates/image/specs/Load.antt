@@ -9,7 +9,7 @@ use Rattle.ijvm.specs.History.{Beginning, beginning_of}
 use Rattle.image.specs.declared.refusal.LoadRefusal.{LoadRefusal}
 use Rattle.image.specs.declared.refusal.LoadRefusal.TheVariants.{WrongLength, FailedCheck, WrongCount, WrongNumber, NotZero, OtherSize, Marked}
 use Rattle.image.specs.declared.refusal.Place.TheVariants.{Size, Mark, Pool, Main}
-use Rattle.image.specs.Format.{word_of, blocks_of, failed_block, numbers_of, params_of, blocks_for, first_unclean}
+use Rattle.image.specs.Format.{word_of, blocks_of, failed_block, numbers_of, params_of, blocks_for, all_clean}
 
 -- 23, by the places of the numbers: the size is within make's limits; the mark is not 0 and below the size, and there are as many blocks as it asks for; the pool lies below the mark; main's first instruction lies in code, its params are 1, and its SP lies below the size.
 abbrev pub number_checks : (blocks params : ℕ) → Numbers → List (Check LoadRefusal)
@@ -27,7 +27,7 @@ image_checks bytes =
     ∷ ((is_none (failed_block bytes)) else FailedCheck (unwrap_or (failed_block bytes) 0)
     ∷ ((word_of bytes 0 == blocks_of bytes) else WrongCount
     ∷ (number_checks (blocks_of bytes) (params_of bytes) (numbers_of bytes)
-    ++ ((is_none (first_unclean (numbers_of bytes).mark bytes)) else NotZero
+    ++ ((all_clean (numbers_of bytes).mark bytes) else NotZero
     ∷ []))))
 
 -- Then of the memory: 25, it has the image's size; 26, its mark is 0.

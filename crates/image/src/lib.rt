@@ -1,6 +1,9 @@
 // The image of a program: its blocks and checks, load, and the call over a list of calls.
 #![tactic(auto)]
 
+mod blocks;
+mod bytes;
 mod refusal;
+mod unused;
 
 pub use refusal::{LoadRefusal, Place};
