@@ -3,6 +3,7 @@
 
 mod blocks;
 mod bytes;
+mod layout;
 mod refusal;
 mod unused;
 
