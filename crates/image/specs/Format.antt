@@ -1,7 +1,6 @@
 -- The image of a program: blocks of 512 bytes, each 128 words.
-use Rattle.std.specs.Prelude.{◌≡◌, ℕ, ◌+◌, ◌-◌, ◌*◌, ◌/◌, ◌%◌, ◌^◌, Bool, cond, not, ◌||◌, List, length, sum_by, position, Option, ◌==◌, nat_lt, slice_index}
+use Rattle.std.specs.Prelude.{ℕ, ◌+◌, ◌-◌, ◌*◌, ◌/◌, ◌%◌, ◌^◌, Bool, cond, not, ◌||◌, List, length, sum_by, position, Option, ◌==◌, nat_lt, slice_index}
 use Rattle.std.specs.List.{range_with_len, list_all}
-use Rattle.std.specs.Int.Digits.{number_from_digits}
 use Rattle.datapath.specs.Cycle.{byte_in}
 use Rattle.ijvm.specs.declared.numbers.Numbers.{Numbers}
 use Rattle.memory.specs.Cells.{word_at}

@@ -3,9 +3,6 @@ use Rattle.std.specs.Prelude.{ℕ, Bool, ◌+◌, ◌*◌, ◌%◌, ◌&&◌, Li
 use Rattle.memory.specs.Meaning.{Meaning, size_of}
 use Rattle.instructions.specs.Checks.{Check, ◌else◌, first_refusal}
 use Rattle.ijvm.specs.declared.numbers.Numbers.{Numbers}
-use Rattle.ijvm.specs.Kit.{Kit}
-use Rattle.ijvm.specs.Start.{started_of}
-use Rattle.ijvm.specs.History.{Beginning, beginning_of}
 use Rattle.image.specs.declared.refusal.LoadRefusal.{LoadRefusal}
 use Rattle.image.specs.declared.refusal.LoadRefusal.TheVariants.{WrongLength, FailedCheck, WrongCount, WrongNumber, NotZero, OtherSize, Marked}
 use Rattle.image.specs.declared.refusal.Place.TheVariants.{Size, Mark, Pool, Main}
@@ -36,10 +33,14 @@ number_checks blocks params n =
     ∷ ((main_fits params n) else WrongNumber Main
     ∷ [])))
 
--- What is asked of the image, in order: 20, a length of at least two blocks and of whole blocks; 21, each block's check, refused with the first block that fails; 22, word 0 is the number of blocks; 23; 24, all unused bytes are zero.
-abbrev pub image_checks : List ℕ → List (Check LoadRefusal)
+-- A length of at least two blocks, and of whole blocks.
+abbrev pub length_fits : List ℕ → Bool
+length_fits bytes = nat_le 1024 (length bytes) && length bytes % 512 == 0
+
+-- What is asked of the image, in order: 20, its length; 21, each block's check, refused with the first block that fails; 22, word 0 is the number of blocks; 23; 24, all unused bytes are zero.
+unfoldable pub image_checks : List ℕ → List (Check LoadRefusal)
 image_checks bytes =
-    (nat_le 1024 (length bytes) && length bytes % 512 == 0) else WrongLength
+    (length_fits bytes) else WrongLength
     ∷ ((is_none (failed_block bytes)) else FailedCheck (unwrap_or (failed_block bytes) 0)
     ∷ ((word_of bytes 0 == blocks_of bytes) else WrongCount
     ∷ (number_checks (blocks_of bytes) (params_of bytes) (numbers_of bytes)

@@ -1,8 +1,16 @@
 // The blocks of an image, and their checks.
 ghost use Rattle.std.specs.Prelude.{◌≡◌, ◌%◌, ◌^◌, ◌<◌};
 ghost use Rattle.image.specs.Format.{adds_up, block_sum, blocks_of, failed_block};
+ghost use Rattle.image.specs.Load.{length_fits};
 
 use crate::bytes::word;
+
+// A length of at least two blocks, and of whole blocks.
+pub(crate) fn length_fits(bytes: &[u8]) -> bool
+    ensures { result ≡ length_fits bytes.now }
+{
+    bytes.len() >= 1024 && bytes.len() % 512 == 0
+}
 
 // How many blocks there are.
 pub(crate) fn blocks(bytes: &[u8]) -> usize

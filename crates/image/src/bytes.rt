@@ -15,7 +15,12 @@ pub(crate) fn word(bytes: &[u8], index: usize) -> u32
     ensures { result ≡ word_of bytes.now index }
 {
     let at = 4 * index;
-    u32::from_be_bytes([byte(bytes, at), byte(bytes, at + 1), byte(bytes, at + 2), byte(bytes, at + 3)])
+    u32::from_be_bytes([
+        byte(bytes, at),
+        byte(bytes, at + 1),
+        byte(bytes, at + 2),
+        byte(bytes, at + 3),
+    ])
 }
 
 // A protected word by its address. The later blocks carry 127 each.

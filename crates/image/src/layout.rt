@@ -84,8 +84,14 @@ pub(crate) fn layout(bytes: &[u8]) -> Result<Layout, LoadRefusal>
 {
     let numbers = numbers(bytes);
     check(size_fits(numbers), LoadRefusal::WrongNumber(Place::Size))?;
-    check(mark_fits(blocks(bytes), numbers), LoadRefusal::WrongNumber(Place::Mark))?;
+    check(
+        mark_fits(blocks(bytes), numbers),
+        LoadRefusal::WrongNumber(Place::Mark),
+    )?;
     check(pool_fits(numbers), LoadRefusal::WrongNumber(Place::Pool))?;
-    check(main_fits(params(bytes), numbers), LoadRefusal::WrongNumber(Place::Main))?;
+    check(
+        main_fits(params(bytes), numbers),
+        LoadRefusal::WrongNumber(Place::Main),
+    )?;
     Ok(Layout { numbers })
 }

@@ -6,5 +6,7 @@ mod bytes;
 mod layout;
 mod refusal;
 mod unused;
+mod view;
 
 pub use refusal::{LoadRefusal, Place};
+pub use view::Image;

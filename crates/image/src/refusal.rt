@@ -47,9 +47,11 @@ impl Place {
     {
         match self {
             Place::Size => "the size is not from 16 to 1048576 words",
-            Place::Mark => "the mark is 0 or not below the size, or asks for another number of blocks",
+            Place::Mark =>
+                "the mark is 0 or not below the size, or asks for another number of blocks",
             Place::Pool => "the constant pool does not lie below the mark",
-            Place::Main => "main does not begin in code, has not 1 param, or has no room for its frame",
+            Place::Main =>
+                "main does not begin in code, has not 1 param, or has no room for its frame",
         }
     }
 }
@@ -93,12 +95,24 @@ impl fmt::Display for LoadRefusal {
     fn fmt<W: fmt::Write>(&self, f: &mut fmt::Formatter<W>) -> fmt::Result {
         let number = self.number();
         match self {
-            LoadRefusal::WrongLength => write!(f, "refused {number}: the length is below 1024 bytes, or no multiple of 512"),
-            LoadRefusal::FailedCheck { block } => write!(f, "refused {number}: the words of block {block} do not add up to its number"),
-            LoadRefusal::WrongCount => write!(f, "refused {number}: word 0 is not the number of blocks"),
+            LoadRefusal::WrongLength => write!(
+                f,
+                "refused {number}: the length is below 1024 bytes, or no multiple of 512"
+            ),
+            LoadRefusal::FailedCheck { block } => write!(
+                f,
+                "refused {number}: the words of block {block} do not add up to its number"
+            ),
+            LoadRefusal::WrongCount => write!(
+                f,
+                "refused {number}: word 0 is not the number of blocks"
+            ),
             LoadRefusal::WrongNumber(place) => write!(f, "refused {number}: {}", place.reason()),
             LoadRefusal::NotZero => write!(f, "refused {number}: an unused byte is not zero"),
-            LoadRefusal::OtherSize => write!(f, "refused {number}: the memory has another size than the image is for"),
+            LoadRefusal::OtherSize => write!(
+                f,
+                "refused {number}: the memory has another size than the image is for"
+            ),
             LoadRefusal::Marked => write!(f, "refused {number}: the memory's mark is not 0"),
         }
     }
