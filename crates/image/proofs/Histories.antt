@@ -1,7 +1,7 @@
 -- Lists of calls, and the histories that machines live by them.
 use Rattle.std.proofs.Common.{◌≡◌, ℕ, ◌+◌, ◌*◌, ◌<◌, ◌≤◌, ◌≢◌, ◌==◌, Bool, true, false, List, [], ◌∷◌, ◌++◌, ◌⊎◌, ⊎_elim, length, take, drop, set, get_or, slice_get, Some, None, Ok, Err, Result, Option, sym, refl, ap, subst, ◌∙◌, append_assoc, append-nil, arith}
 use Rattle.std.proofs.lemmas.Bool.{eqb-true, cases_lt}
-use Rattle.std.proofs.lemmas.List.{length-append, get_or_append_left, get_or_push, drop-append-le, drop_all}
+use Rattle.std.proofs.lemmas.List.{length-append, get_or_append_left, get_or_push, drop-append-le, drop_all, drop-set-lt, drop-drop, take_more, take_more_set, length-take-le}
 use Rattle.std.proofs.lemmas.Option.{slice_get-get_or, slice_get_within}
 use Rattle.memory.specs.Meaning.{Meaning, size_of}
 use Rattle.instructions.specs.declared.cases.Case.{Case}
@@ -43,7 +43,7 @@ never bytes m one ok =
 
 -- Each call goes on with what a machine had come to.
 module _ (b : Beginning) (cases : List Case) (s : Ijvm) (k : Kit) (h : Came b cases s k) where
-  load_goes_on : (bytes : List ℕ) → GoesOn (load_turn bytes s) b cases (load_reply bytes k).answer (load_reply bytes k).after
+  pub load_goes_on : (bytes : List ℕ) → GoesOn (load_turn bytes s) b cases (load_reply bytes k).answer (load_reply bytes k).after
   load_goes_on bytes =
       let size : length k.micro.memory.words ≡ length s.words = sym (settled-length k.micro.memory k.micro.state.access) ∙ ap length h.stands.same_words in
       record { same_answer = asked bytes k.micro.memory s size h.stands.same_mark; came = stays (load_of bytes k.micro.memory) refl }
@@ -144,17 +144,48 @@ unfolding LivesSince LivesOn BeginsBy
 since_more calls answers k next c a even since on begins n call image at loads accepted =
     ⊎_elim
     (λ (h : n < length calls).
-      let old = since n call image (sym (in_front calls c n h) ∙ at) loads (sym (in_front answers a n (omega (arith, even))) ∙ accepted) in
-      rw (drop-append-le (n + 1) calls (c ∷ []) (omega arith), drop-append-le (n + 1) answers (a ∷ []) (omega (arith, even)))
-      (on image (drop (n + 1) calls) (drop (n + 1) answers) old))
+    let old = since n call image (sym (in_front calls c n h) ∙ at) loads (sym (in_front answers a n (omega (arith, even))) ∙ accepted) in
+    rw (drop-append-le (n + 1) calls (c ∷ []) (omega arith), drop-append-le (n + 1) answers (a ∷ []) (omega (arith, even)))
+    (on image (drop (n + 1) calls) (drop (n + 1) answers) old))
     (λ (h : length calls ≤ n).
-      let inside : n < length (calls ++ (c ∷ [])) = slice_get_within (calls ++ (c ∷ [])) n call at in
-      let e : length calls ≡ n = omega (arith, length-append calls (c ∷ [])) in
-      let same-call : call ≡ c = some_same call c (sym at ∙ at_end calls c n e) in
-      let same-answer : a ≡ Loaded (Ok tt) = some_same a (Loaded (Ok tt)) (sym (at_end answers a n (even ∙ e)) ∙ accepted) in
-      rw (behind calls c n e, behind answers a n (even ∙ e)) (begins image (ap loaded_by (sym same-call) ∙ loads) same-answer))
+    let inside : n < length (calls ++ (c ∷ [])) = slice_get_within (calls ++ (c ∷ [])) n call at in
+    let e : length calls ≡ n = omega (arith, length-append calls (c ∷ [])) in
+    let same-call : call ≡ c = some_same call c (sym at ∙ at_end calls c n e) in
+    let same-answer : a ≡ Loaded (Ok tt) = some_same a (Loaded (Ok tt)) (sym (at_end answers a n (even ∙ e)) ∙ accepted) in
+    rw (behind calls c n e, behind answers a n (even ∙ e)) (begins image (ap loaded_by (sym same-call) ∙ loads) same-answer))
     (cases_lt n (length calls))
 
 pub none_since : (k : Kit) → LivesSince [] [] k
 unfolding LivesSince
 none_since k n call image at loads accepted = absurd (omega (arith, slice_get_within [] n call at))
+
+-- A loop over the calls: none yet,
+pub none_yet : (k : Kit) → ([] ≡ (story_of [] k).answers) × (k ≡ (story_of [] k).after)
+unfolding story_of
+none_yet k = (refl, refl)
+
+one_on : (c : Call) (a : Answer) (k next : Kit) → a ≡ (reply_of c k).answer → next ≡ (reply_of c k).after → LivesOn (c ∷ []) (a ∷ []) k next
+unfolding story_of
+one_on c a k next answer after = lives_on (c ∷ []) (a ∷ []) k next (ap (λ x. x ∷ []) answer) after
+
+-- and one more
+pub performed_more : (calls : List Call) (answers : List Answer) (i : ℕ) (c : Call) (a : Answer) (first k next : Kit) → i < length calls → i < length answers → get_or calls i c ≡ c
+    → take i answers ≡ (story_of (take i calls) first).answers → k ≡ (story_of (take i calls) first).after → LivesSince (take i calls) (take i answers) k
+    → a ≡ (reply_of c k).answer → next ≡ (reply_of c k).after → BeginsBy c a next
+    → (take (i + 1) (set answers i a) ≡ (story_of (take (i + 1) calls) first).answers)
+    × (next ≡ (story_of (take (i + 1) calls) first).after)
+    × LivesSince (take (i + 1) calls) (take (i + 1) (set answers i a)) next
+performed_more calls answers i c a first k next in-calls in-answers same given is since answer after begins =
+    let more = story_more (take i calls) c first in
+    let calls-are : take (i + 1) calls ≡ take i calls ++ (c ∷ []) = take_more calls i c in-calls ∙ ap (λ x. take i calls ++ (x ∷ [])) same in
+    let answers-are : take (i + 1) (set answers i a) ≡ take i answers ++ (a ∷ []) = take_more_set answers i a in-answers in
+    let even : length (take i answers) ≡ length (take i calls) = length-take-le i answers (omega arith) ∙ sym (length-take-le i calls (omega arith)) in
+    rw (calls-are, answers-are) (
+      ap (λ l. l ++ (a ∷ [])) given ∙ ap (λ x. (story_of (take i calls) first).answers ++ (x ∷ [])) (answer ∙ ap (λ j. (reply_of c j).answer) is) ∙ sym more.answers,
+      after ∙ ap (λ j. (reply_of c j).after) is ∙ sym more.after,
+      since_more (take i calls) (take i answers) k next c a even since (one_on c a k next answer after) begins,
+    )
+
+-- What lies behind the place of a turn stays.
+pub rest_more : {A : Type 0} (xs ys : List A) (i : ℕ) (y : A) → drop i xs ≡ drop i ys → drop (i + 1) (set xs i y) ≡ drop (i + 1) ys
+rest_more xs ys i y e = drop-set-lt (i + 1) xs i y (omega arith) ∙ sym (drop-drop 1 i xs) ∙ ap (λ l. drop 1 l) e ∙ drop-drop 1 i ys

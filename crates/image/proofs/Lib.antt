@@ -1,2 +1,4 @@
+pub mod Sums
 pub mod Appended
 pub mod Histories
+pub mod Loads

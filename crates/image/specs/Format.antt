@@ -1,7 +1,6 @@
 -- The image of a program: blocks of 512 bytes, each 128 words.
-use Rattle.std.specs.Prelude.{◌≡◌, ℕ, ◌+◌, ◌-◌, ◌*◌, ◌/◌, ◌%◌, ◌^◌, Bool, cond, not, ◌||◌, List, length, sum_by, position, Option, ◌==◌, nat_lt, slice_index}
-use Rattle.std.specs.List.{range_with_len}
-use Rattle.std.specs.Int.Digits.{number_from_digits}
+use Rattle.std.specs.Prelude.{ℕ, ◌+◌, ◌-◌, ◌*◌, ◌/◌, ◌%◌, ◌^◌, Bool, cond, not, ◌||◌, List, length, sum_by, position, Option, ◌==◌, nat_lt, slice_index}
+use Rattle.std.specs.List.{range_with_len, list_all}
 use Rattle.datapath.specs.Cycle.{byte_in}
 use Rattle.ijvm.specs.declared.numbers.Numbers.{Numbers}
 use Rattle.memory.specs.Cells.{word_at}
@@ -15,7 +14,7 @@ abbrev pub blocks_of : List ℕ → ℕ
 blocks_of bytes = length bytes / 512
 
 -- The 128 words of block number k, the last of them its check, added up.
-abbrev pub block_sum : List ℕ → ℕ → ℕ
+unfoldable pub block_sum : List ℕ → ℕ → ℕ
 block_sum bytes k = sum_by (word_of bytes) (range_with_len (128 * k) 128)
 
 -- They add up to k, modulo 2^32.
@@ -64,5 +63,5 @@ is_used mark i = (i % 128 == 127) || cond (nat_lt i 128) (nat_lt i 6) (nat_lt (1
 abbrev pub is_clean : (mark : ℕ) → List ℕ → ℕ → Bool
 is_clean mark bytes b = is_used mark (b / 4) || slice_index bytes b == 0
 
-abbrev pub first_unclean : (mark : ℕ) → List ℕ → Option ℕ
-first_unclean mark bytes = position (λ b. not (is_clean mark bytes b)) (range_with_len 0 (length bytes))
+abbrev pub all_clean : (mark : ℕ) → List ℕ → Bool
+all_clean mark bytes = list_all (is_clean mark bytes) (range_with_len 0 (length bytes))

@@ -1,5 +1,5 @@
 -- The whole statement: the history that a machine has lived since an image was loaded.
-use Rattle.std.specs.Prelude.{◌≡◌, ℕ, ◌+◌, List, [], ◌++◌, drop, Some, None, Ok, Option, slice_get}
+use Rattle.std.specs.Prelude.{◌≡◌, ℕ, ◌+◌, List, [], ◌++◌, drop, Some, None, Ok, Option, Result, slice_get}
 use Rattle.ijvm.specs.Kit.{Kit}
 use Rattle.ijvm.specs.Start.{start_of}
 use Rattle.ijvm.specs.History.{Beginning, beginning_of, Came}
@@ -9,6 +9,7 @@ use Rattle.image.specs.declared.calls.Call.{Call}
 use Rattle.image.specs.declared.calls.Call.TheVariants.{Load, Step, Run, Look}
 use Rattle.image.specs.declared.calls.Answer.{Answer}
 use Rattle.image.specs.declared.calls.Answer.TheVariants.{Loaded}
+use Rattle.image.specs.declared.refusal.LoadRefusal.{LoadRefusal}
 use Rattle.image.specs.Format.{numbers_of, protected_of}
 use Rattle.image.specs.Load.{image_checks}
 use Rattle.image.specs.Calls.{past_of}
@@ -40,6 +41,10 @@ loaded_by (Run n) = None
 loaded_by (Look a) = None
 
 -- An accepted load begins a history: that image's, with no calls yet.
+unfoldable pub BeginsHistory : (image : List ℕ) → Result (Unit {0}) LoadRefusal → (after : Kit) → Type 0
+BeginsHistory image answer after = answer ≡ Ok tt → Lived image [] [] after
+
+-- So does a call that is one.
 unfoldable pub BeginsBy : Call → Answer → (after : Kit) → Type 0
 BeginsBy call answer after = (image : List ℕ) → loaded_by call ≡ Some image → answer ≡ Loaded (Ok tt) → Lived image [] [] after
 

@@ -1,34 +1,58 @@
 -- What load refuses, and what it leaves.
-use Rattle.std.specs.Prelude.{ℕ, ◌+◌, ◌*◌, ◌%◌, ◌&&◌, List, [], ◌∷◌, ◌++◌, length, is_none, unwrap_or, Ok, Err, Result, ◌==◌, nat_lt, nat_le}
+use Rattle.std.specs.Prelude.{ℕ, Bool, ◌+◌, ◌*◌, ◌%◌, ◌&&◌, List, [], ◌∷◌, ◌++◌, length, is_none, unwrap_or, Ok, Err, Result, ◌==◌, nat_lt, nat_le}
 use Rattle.memory.specs.Meaning.{Meaning, size_of}
 use Rattle.instructions.specs.Checks.{Check, ◌else◌, first_refusal}
 use Rattle.ijvm.specs.declared.numbers.Numbers.{Numbers}
-use Rattle.ijvm.specs.Kit.{Kit}
-use Rattle.ijvm.specs.Start.{started_of}
-use Rattle.ijvm.specs.History.{Beginning, beginning_of}
+use Rattle.ijvm.specs.declared.refusal.StartRefusal.{StartRefusal}
 use Rattle.image.specs.declared.refusal.LoadRefusal.{LoadRefusal}
 use Rattle.image.specs.declared.refusal.LoadRefusal.TheVariants.{WrongLength, FailedCheck, WrongCount, WrongNumber, NotZero, OtherSize, Marked}
 use Rattle.image.specs.declared.refusal.Place.TheVariants.{Size, Mark, Pool, Main}
-use Rattle.image.specs.Format.{word_of, blocks_of, failed_block, numbers_of, params_of, blocks_for, first_unclean}
+use Rattle.image.specs.Refusals.{of_start}
+use Rattle.image.specs.Format.{word_of, blocks_of, failed_block, numbers_of, params_of, blocks_for, all_clean}
 
--- 23, by the places of the numbers: the size is within make's limits; the mark is not 0 and below the size, and there are as many blocks as it asks for; the pool lies below the mark; main's first instruction lies in code, its params are 1, and its SP lies below the size.
-abbrev pub number_checks : (blocks params : ℕ) → Numbers → List (Check LoadRefusal)
+-- The numbers: the size is within make's limits;
+abbrev pub size_fits : Numbers → Bool
+size_fits n = nat_le 16 n.size && nat_le n.size 1048576
+
+-- the mark is not 0 and below the size, and there are as many blocks as it asks for;
+abbrev pub mark_fits : (blocks : ℕ) → Numbers → Bool
+mark_fits blocks n = nat_le 1 n.mark && nat_lt n.mark n.size && blocks == blocks_for n.mark
+
+-- the pool lies below the mark;
+abbrev pub pool_fits : Numbers → Bool
+pool_fits n = nat_le (n.cpp + n.pool) n.mark
+
+-- main's first instruction lies in code, its params are 1, and its SP lies below the size.
+abbrev pub main_fits : (params : ℕ) → Numbers → Bool
+main_fits params n = nat_lt (n.main + 4) (4 * n.mark) && params == 1 && nat_lt (n.mark + n.locals + 2) n.size
+
+-- 23, by the places of the numbers.
+unfoldable pub number_checks : (blocks params : ℕ) → Numbers → List (Check LoadRefusal)
 number_checks blocks params n =
-    (nat_le 16 n.size && nat_le n.size 1048576) else WrongNumber Size
-    ∷ ((nat_le 1 n.mark && nat_lt n.mark n.size && blocks == blocks_for n.mark) else WrongNumber Mark
-    ∷ ((nat_le (n.cpp + n.pool) n.mark) else WrongNumber Pool
-    ∷ ((nat_lt (n.main + 4) (4 * n.mark) && params == 1 && nat_lt (n.mark + n.locals + 2) n.size) else WrongNumber Main
+    (size_fits n) else WrongNumber Size
+    ∷ ((mark_fits blocks n) else WrongNumber Mark
+    ∷ ((pool_fits n) else WrongNumber Pool
+    ∷ ((main_fits params n) else WrongNumber Main
     ∷ [])))
 
--- What is asked of the image, in order: 20, a length of at least two blocks and of whole blocks; 21, each block's check, refused with the first block that fails; 22, word 0 is the number of blocks; 23; 24, all unused bytes are zero.
-abbrev pub image_checks : List ℕ → List (Check LoadRefusal)
+-- A length of at least two blocks, and of whole blocks.
+abbrev pub length_fits : List ℕ → Bool
+length_fits bytes = nat_le 1024 (length bytes) && length bytes % 512 == 0
+
+-- What is asked of the image, in order: 20, its length; 21, each block's check, refused with the first block that fails; 22, word 0 is the number of blocks; 23; 24, all unused bytes are zero.
+unfoldable pub image_checks : List ℕ → List (Check LoadRefusal)
 image_checks bytes =
-    (nat_le 1024 (length bytes) && length bytes % 512 == 0) else WrongLength
+    (length_fits bytes) else WrongLength
     ∷ ((is_none (failed_block bytes)) else FailedCheck (unwrap_or (failed_block bytes) 0)
     ∷ ((word_of bytes 0 == blocks_of bytes) else WrongCount
     ∷ (number_checks (blocks_of bytes) (params_of bytes) (numbers_of bytes)
-    ++ ((is_none (first_unclean (numbers_of bytes).mark bytes)) else NotZero
+    ++ ((all_clean (numbers_of bytes).mark bytes) else NotZero
     ∷ []))))
+
+-- Whether a view of the image was given, and else why not.
+abbrev pub accepted : {A R : Type 0} → Result A R → Result (Unit {0}) R
+accepted (Ok view) = Ok tt
+accepted (Err refusal) = Err refusal
 
 -- Then of the memory: 25, it has the image's size; 26, its mark is 0.
 abbrev pub load_checks : List ℕ → Meaning → List (Check LoadRefusal)
@@ -37,6 +61,11 @@ load_checks bytes m =
     ++ ((size_of m == (numbers_of bytes).size) else OtherSize
     ∷ ((m.mark == 0) else Marked
     ∷ []))
+
+-- A refusal that the memory gives cause for, as load answers it.
+abbrev pub by_memory : Result (Unit {0}) StartRefusal → Result (Unit {0}) LoadRefusal
+by_memory (Ok _) = Ok tt
+by_memory (Err refusal) = Err (of_start refusal)
 
 -- Load answers the first refusal, if there is one.
 unfoldable pub load_of : List ℕ → Meaning → Result (Unit {0}) LoadRefusal

@@ -33,6 +33,25 @@ load_detail NotZero = None
 load_detail OtherSize = None
 load_detail Marked = None
 
+-- The refusals as text.
+abbrev pub place_reason : Place → List ℕ
+place_reason Size = codes "the size is not from 16 to 1048576 words"
+place_reason Mark = codes "the mark is 0 or not below the size, or asks for another number of blocks"
+place_reason Pool = codes "the constant pool does not lie below the mark"
+place_reason Main = codes "main does not begin in code, has not 1 param, or has no room for its frame"
+
+abbrev pub load_reason : LoadRefusal → List ℕ
+load_reason WrongLength = codes "the length is below 1024 bytes, or no multiple of 512"
+load_reason (FailedCheck block) = codes "the words of block " ++ (decimal block ++ codes " do not add up to its number")
+load_reason WrongCount = codes "word 0 is not the number of blocks"
+load_reason (WrongNumber place) = place_reason place
+load_reason NotZero = codes "an unused byte is not zero"
+load_reason OtherSize = codes "the memory has another size than the image is for"
+load_reason Marked = codes "the memory's mark is not 0"
+
+abbrev pub load_text : LoadRefusal → List ℕ
+load_text refusal = codes "refused " ++ (decimal (load_number refusal) ++ (codes ": " ++ load_reason refusal))
+
 -- The refusals that the memory gives cause for.
 abbrev pub of_start : StartRefusal → LoadRefusal
 of_start StartOtherSize = OtherSize

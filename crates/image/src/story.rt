@@ -9,6 +9,7 @@ use ijvm::Machine;
 use memory::Memory;
 
 // One call.
+#[tactic(auto, using(crate::proofs::Loads::begins_by_load, crate::proofs::Loads::no_load))]
 fn obey<M: Memory>(machine: &mut Machine<M>, call: Call<'_>) -> Answer
     ensures answer { result ≡ (reply_of call.entry (kit_of M.Memory.meaning machine.old)).answer }
     ensures after { kit_of M.Memory.meaning machine.new ≡ (reply_of call.entry (kit_of M.Memory.meaning machine.old)).after }
@@ -23,7 +24,7 @@ fn obey<M: Memory>(machine: &mut Machine<M>, call: Call<'_>) -> Answer
     }
 }
 
-// The first n calls.
+// The first n calls. An index and no zip: each answer has the place of its call.
 fn perform_first<M: Memory>(
     machine: &mut Machine<M>,
     calls: &[Call<'_>],
@@ -45,6 +46,7 @@ fn perform_first<M: Memory>(
 
 // Performs the calls in their order, as many as there is room for in answers, and puts each one's answer at its place; how many these are. The places behind them keep what they hold.
 // This is the whole statement: whatever history the machine had lived before, it lives on with these calls and answers; and from each accepted load among them on it has lived that image's history.
+#[tactic(auto, using(crate::proofs::Histories::lives_on))]
 pub fn perform<M: Memory>(
     machine: &mut Machine<M>,
     calls: &[Call<'_>],
