@@ -1,0 +1,24 @@
+// Runs an image: reads it from standard input, loads it, runs up to 1,000,000 steps, and prints where that ended.
+#![tactic(auto)]
+
+use control::Registers;
+use ijvm::Machine;
+use memory::WordMemory;
+use report::{memory_size, run_image};
+use std::io::Read;
+
+// As many bytes as are read, and as many steps as are made.
+const MOST_BYTES: u64 = 32_768;
+
+const MOST_STEPS: u64 = 1_000_000;
+
+fn main(rt: HostRuntime) -> anyhow::Result<()> {
+    let heap = rt.alloc();
+    let mut image = Vec::new(heap);
+    rt.stdin().take(MOST_BYTES).read_to_end(&mut image)?;
+    let mut words = vec![in heap; 0u32; memory_size(&image)]?;
+    let memory = WordMemory::make(words.as_mut_slice());
+    let mut machine = Machine::power(memory, Registers::default(), 0, 0);
+    println!(rt; "{}", run_image(&mut machine, &image, MOST_STEPS))?;
+    Ok(())
+}

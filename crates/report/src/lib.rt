@@ -1,0 +1,8 @@
+// What a run of an image comes to: the four lines that the program prints.
+#![tactic(auto)]
+
+mod lines;
+mod running;
+
+pub use lines::Report;
+pub use running::{memory_size, run_image};
