@@ -1,5 +1,5 @@
 -- Words and bytes of what a machine shows.
-use Rattle.std.proofs.Common.{◌≡◌, ℕ, ◌/◌, ◌≤◌, List, length, slice_index, slice_get, unwrap_or, Some, None, refl, sym, ◌∙◌}
+use Rattle.std.proofs.Common.{◌≡◌, ℕ, ◌/◌, ◌≤◌, List, length, slice_index, slice_get, unwrap_or, refl, sym}
 use Rattle.std.proofs.lemmas.Option.{unwrap_or-slice_get}
 use Rattle.std.proofs.lemmas.List.{get_or_past}
 use Rattle.datapath.specs.Cycle.{byte_in}

@@ -1,9 +1,9 @@
 -- The instruction machine as a Mic-1 shows it.
-use Rattle.std.specs.Prelude.{ℕ, ◌+◌, cond, List, Some, None, Option, nat_lt, slice_get}
+use Rattle.std.specs.Prelude.{ℕ, cond, Some, None, Option, slice_get}
 use Rattle.memory.specs.Meaning.{Meaning}
 use Rattle.datapath.specs.Cycle.{Micro}
 use Rattle.datapath.specs.Whole.{micro_of}
-use Rattle.instructions.specs.Machine.{Ijvm, base_of, deep_enough, top_of}
+use Rattle.instructions.specs.Machine.{Ijvm, deep_enough, top_of}
 use Rattle.instructions.specs.Stands.{settled_words}
 use Rattle.checks.specs.declared.shown.Shown.{Shown}
 

@@ -1,16 +1,13 @@
 -- Each call goes on with what a machine had come to.
-use Rattle.std.proofs.Common.{◌≡◌, ℕ, zero, suc, ◌+◌, ◌%◌, ◌^◌, ◌<◌, List, [], ◌∷◌, ◌++◌, Some, None, Ok, Err, Result, Option, sym, refl, ap, subst, ◌∙◌, zero-add, append_assoc, append-nil, arith}
+use Rattle.std.proofs.Common.{◌≡◌, ℕ, zero, suc, ◌+◌, List, [], ◌∷◌, ◌++◌, Some, Ok, Err, Result, sym, refl, ap, subst, ◌∙◌, zero-add, append_assoc, append-nil, arith}
 use Rattle.datapath.specs.Cycle.{Micro}
-use Rattle.datapath.specs.Go.{go_of}
-use Rattle.microprogram.specs.Published.{published}
 use Rattle.instructions.specs.declared.cases.Case.{Case}
 use Rattle.instructions.specs.declared.refusal.StepRefusal.{StepRefusal}
 use Rattle.instructions.specs.Machine.{Ijvm}
 use Rattle.instructions.specs.Table.{cycles_of, effect_of}
 use Rattle.instructions.specs.Step.{step_of, step_from}
 use Rattle.instructions.specs.Stands.{Stands, Takes}
-use Rattle.instructions.specs.Sound.{Sound}
-use Rattle.instructions.specs.Performed.{Performs, total}
+use Rattle.instructions.specs.Performed.{total}
 use Rattle.instructions.proofs.Lists.{performs_both, sound_after}
 use Rattle.instructions.proofs.EveryCase.{every_case, and_then, adds_up}
 use Rattle.instructions.proofs.Nested.{any_calls_nest}
@@ -18,8 +15,8 @@ use Rattle.checks.specs.Shown.{shown_of}
 use Rattle.ijvm.specs.declared.answers.Ran.{Ran}
 use Rattle.ijvm.specs.declared.refusal.LookRefusal.{LookRefusal}
 use Rattle.ijvm.specs.Kit.{Kit, shows}
-use Rattle.ijvm.specs.Calls.{Reply, step_by, stepped_of, run_on, ran_of, look_of}
-use Rattle.ijvm.specs.Turns.{Turn, step_turn, step_turn_by, run_turn, run_turn_by, look_turn}
+use Rattle.ijvm.specs.Calls.{stepped_of, run_on, ran_of, look_of}
+use Rattle.ijvm.specs.Turns.{step_turn, step_turn_by, run_turn, run_turn_by, look_turn}
 use Rattle.ijvm.specs.History.{Beginning, Came, GoesOn, Continues}
 
 -- a machine that stands for a state shows it

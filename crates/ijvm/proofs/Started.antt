@@ -1,17 +1,16 @@
 -- The start of a program.
-use Rattle.std.proofs.Common.{◌≡◌, ℕ, ◌+◌, ◌*◌, ◌/◌, ◌%◌, ◌^◌, ◌<◌, ◌≤◌, ◌≢◌, cond, Bool, true, false, List, [], ◌∷◌, ◌++◌, ◌⊎◌, ⊎_elim, length, map, set, get_or, slice_index, Some, None, Ok, Err, Result, Option, sym, refl, ap, subst, ◌∙◌, lt-ltb, le-ltb, arith}
+use Rattle.std.proofs.Common.{◌≡◌, ℕ, ◌+◌, ◌*◌, ◌/◌, ◌^◌, ◌<◌, ◌≤◌, List, [], ◌++◌, ⊎_elim, length, map, get_or, slice_index, Some, None, Ok, Err, Result, Option, sym, refl, ap, subst, ◌∙◌, lt-ltb, le-ltb, arith}
 use Rattle.std.specs.List.{range_with_len}
 use Rattle.std.proofs.lemmas.List.FromFn.{fill_by_all, length-map-range_with_len, get_or-map-range_with_len}
 use Rattle.std.proofs.lemmas.List.{length-set, get_or-set_same, get_or-set_other, get_or_past}
 use Rattle.std.proofs.lemmas.Bool.{cases_lt, cases_eq, lt-leb, eqb-true}
-use Rattle.memory.specs.Meaning.{Meaning, size_of, protected_of, written_of}
+use Rattle.memory.specs.Meaning.{Meaning, protected_of, written_of}
 use Rattle.datapath.specs.declared.pending.DataAccess.{DataAccess}
 use Rattle.datapath.specs.declared.pending.DataAccess.TheVariants.{Read as Reading, Write as Writing}
 use Rattle.datapath.specs.Cycle.{byte_in}
 use Rattle.instructions.specs.Checks.{first_refusal}
-use Rattle.instructions.specs.Machine.{Ijvm, byte_of, base_of}
+use Rattle.instructions.specs.Machine.{Ijvm, byte_of}
 use Rattle.instructions.specs.Stands.{settled_words}
-use Rattle.instructions.specs.Sound.{Sound}
 use Rattle.instructions.proofs.Lists.{sound_after}
 use Rattle.instructions.proofs.EveryCase.{adds_up}
 use Rattle.instructions.proofs.Nested.{any_calls_nest}
@@ -21,7 +20,7 @@ use Rattle.ijvm.specs.declared.refusal.StartRefusal.{StartRefusal}
 use Rattle.ijvm.specs.Kit.{Kit}
 use Rattle.ijvm.specs.Start.{Fits, memory_checks, filled_word, filled_words, start_words, start_of, fresh_of, started_of, after_start}
 use Rattle.ijvm.specs.Turns.{start_turn}
-use Rattle.ijvm.specs.History.{Beginning, beginning_of, Begun, Came, Begins, Continues}
+use Rattle.ijvm.specs.History.{beginning_of, Begun, Came, Begins, Continues}
 use Rattle.ijvm.proofs.Continued.{same}
 
 -- a list whose words are those of a function of the address, up to its end
@@ -63,7 +62,7 @@ module _ (n : Numbers) (word : ℕ → ℕ) where
   placed m p w link within words mark protected written l =
       let size : length m.words ≡ n.size = ap length words ∙ length-map-range_with_len (filled_word n word) 0 n.size in
       let p-is : p ≡ record { words = filled_words n word; mark = n.mark } =
-          protected ∙ rw (le-ltb n.mark m.mark (omega (arith, mark)), le-ltb (length m.words) n.mark (omega (arith, size)), words) refl in
+      protected ∙ rw (le-ltb n.mark m.mark (omega (arith, mark)), le-ltb (length m.words) n.mark (omega (arith, size)), words) refl in
       let size' : length (filled_words n word) ≡ n.size = length-map-range_with_len (filled_word n word) 0 n.size in
       written ∙ rw (p-is, lt-leb (length (filled_words n word)) n.mark (omega (arith, size')), le-ltb n.mark n.mark (omega arith), l) refl
 
@@ -74,10 +73,10 @@ module _ (n : Numbers) (word : ℕ → ℕ) where
     all_small a =
         ⊎_elim
         (λ (h : a < n.size).
-          ⊎_elim
-          (λ (e : a ≡ n.mark). rw (e, at_link fits.within) (omega (arith, fits.few, fits.room)))
-          (λ (ne : a ≡ n.mark → ⊥). rw (get_or-set_other (filled_words n word) n.mark a (n.mark + 1 + n.locals) 0 ne, at_filled a h) (small a h))
-          (cases_eq a n.mark))
+        ⊎_elim
+        (λ (e : a ≡ n.mark). rw (e, at_link fits.within) (omega (arith, fits.few, fits.room)))
+        (λ (ne : a ≡ n.mark → ⊥). rw (get_or-set_other (filled_words n word) n.mark a (n.mark + 1 + n.locals) 0 ne, at_filled a h) (small a h))
+        (cases_eq a n.mark))
         (λ (h : n.size ≤ a). rw (get_or_past (start_words n word) a 0 (omega (arith, length-start_words))) (omega arith))
         (cases_lt a n.size)
 

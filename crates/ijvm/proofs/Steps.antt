@@ -1,5 +1,5 @@
 -- A run, step by step, from what each step answers and leaves.
-use Rattle.std.proofs.Common.{◌≡◌, ℕ, suc, ◌+◌, ◌-◌, ◌<◌, Some, None, Ok, Err, Result, Option, sym, refl, ap, ◌∙◌, zero-add, arith}
+use Rattle.std.proofs.Common.{◌≡◌, ℕ, suc, ◌+◌, ◌-◌, ◌<◌, Some, None, Ok, Err, Result, Option, sym, ap, ◌∙◌, arith}
 use Rattle.instructions.specs.declared.refusal.StepRefusal.{StepRefusal}
 use Rattle.ijvm.specs.declared.answers.Ran.{Ran}
 use Rattle.ijvm.specs.Kit.{Kit}

@@ -1,12 +1,10 @@
 -- The start of a program: what load leaves where it is accepted.
-use Rattle.std.specs.Prelude.{ℕ, ◌+◌, ◌*◌, ◌<◌, ◌≤◌, cond, List, [], ◌∷◌, length, map, Some, None, Ok, Err, Result, ◌==◌, nat_lt, slice_set}
+use Rattle.std.specs.Prelude.{ℕ, ◌+◌, ◌*◌, ◌<◌, ◌≤◌, cond, List, [], ◌∷◌, map, Some, None, Ok, Err, Result, ◌==◌, nat_lt, slice_set}
 use Rattle.std.specs.List.{range_with_len}
 use Rattle.memory.specs.Meaning.{Meaning, size_of}
-use Rattle.control.specs.declared.register_file.Registers.{Registers}
-use Rattle.datapath.specs.declared.machine_state.State.{State}
 use Rattle.datapath.specs.Cycle.{Micro}
 use Rattle.instructions.specs.Machine.{Ijvm, byte_of}
-use Rattle.instructions.specs.Checks.{Check, ◌else◌, first_refusal}
+use Rattle.instructions.specs.Checks.{Check, ◌else◌}
 use Rattle.ijvm.specs.declared.numbers.Numbers.{Numbers}
 use Rattle.ijvm.specs.declared.refusal.StartRefusal.{StartRefusal}
 use Rattle.ijvm.specs.declared.refusal.StartRefusal.TheVariants.{OtherSize, Marked}

@@ -1,5 +1,5 @@
 -- The instruction machine, fed with the calls: what it answers, the instructions that it performs, and the state after them.
-use Rattle.std.specs.Prelude.{ℕ, zero, suc, ◌+◌, List, [], ◌∷◌, Some, None, Ok, Err, Option, Result}
+use Rattle.std.specs.Prelude.{ℕ, zero, suc, ◌+◌, List, [], ◌∷◌, Some, None, Ok, Err, Result}
 use Rattle.instructions.specs.declared.cases.Case.{Case}
 use Rattle.instructions.specs.declared.refusal.StepRefusal.{StepRefusal}
 use Rattle.instructions.specs.Machine.{Ijvm}
@@ -10,7 +10,6 @@ use Rattle.ijvm.specs.declared.refusal.LookRefusal.{LookRefusal}
 use Rattle.ijvm.specs.declared.numbers.Numbers.{Numbers}
 use Rattle.ijvm.specs.declared.refusal.StartRefusal.{StartRefusal}
 use Rattle.instructions.specs.Checks.{first_refusal}
-use Rattle.memory.specs.Meaning.{Meaning}
 use Rattle.ijvm.specs.Start.{memory_checks}
 use Rattle.ijvm.specs.Calls.{look_at}
 

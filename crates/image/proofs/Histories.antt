@@ -1,18 +1,15 @@
 -- Lists of calls, and the histories that machines live by them.
-use Rattle.std.proofs.Common.{◌≡◌, ℕ, ◌+◌, ◌*◌, ◌<◌, ◌≤◌, ◌≢◌, ◌==◌, Bool, true, false, List, [], ◌∷◌, ◌++◌, ◌⊎◌, ⊎_elim, length, take, drop, set, get_or, slice_get, Some, None, Ok, Err, Result, Option, sym, refl, ap, subst, ◌∙◌, append_assoc, append-nil, arith}
+use Rattle.std.proofs.Common.{◌≡◌, ℕ, ◌+◌, ◌<◌, ◌≤◌, ◌==◌, List, [], ◌∷◌, ◌++◌, ⊎_elim, length, take, drop, set, get_or, slice_get, Some, Ok, Err, Result, sym, refl, ap, subst, ◌∙◌, append_assoc, arith}
 use Rattle.std.proofs.lemmas.Bool.{eqb-true, cases_lt}
 use Rattle.std.proofs.lemmas.List.{length-append, get_or_append_left, get_or_push, drop-append-le, drop_all, drop-set-lt, drop-drop, take_more, take_more_set, length-take-le}
 use Rattle.std.proofs.lemmas.Option.{slice_get-get_or, slice_get_within}
 use Rattle.memory.specs.Meaning.{Meaning, size_of}
 use Rattle.instructions.specs.declared.cases.Case.{Case}
 use Rattle.instructions.specs.Machine.{Ijvm}
-use Rattle.instructions.specs.Checks.{Check, ◌else◌, first_refusal}
-use Rattle.instructions.proofs.Checked.{AllPass, all_pass}
+use Rattle.instructions.specs.Checks.{Check, ◌else◌}
+use Rattle.instructions.proofs.Checked.{all_pass}
 use Rattle.instructions.proofs.Lists.{sound_after}
-use Rattle.ijvm.specs.Kit.{Kit, shows}
-use Rattle.ijvm.specs.Start.{started_of}
-use Rattle.ijvm.specs.Calls.{Reply, stepped_of, ran_of, look_of}
-use Rattle.ijvm.specs.Turns.{Turn, still, step_turn, run_turn, look_turn}
+use Rattle.ijvm.specs.Kit.{Kit}
 use Rattle.ijvm.specs.History.{Beginning, Came, GoesOn}
 use Rattle.ijvm.proofs.Continued.{same, step_goes_on, run_goes_on, look_goes_on}
 use Rattle.ijvm.proofs.Started.{settled-length}
@@ -23,10 +20,10 @@ use Rattle.image.specs.declared.calls.Answer.{Answer}
 use Rattle.image.specs.declared.calls.Answer.TheVariants.{Loaded, Stepped, Ran, Looked}
 use Rattle.image.specs.declared.refusal.LoadRefusal.{LoadRefusal}
 use Rattle.image.specs.declared.refusal.LoadRefusal.TheVariants.{OtherSize, Marked}
-use Rattle.image.specs.Format.{numbers_of, protected_of}
-use Rattle.image.specs.Load.{image_checks, load_checks, load_of}
-use Rattle.image.specs.Calls.{after_load, load_reply, reply_of, Story, and_then, story_of, load_turn, turn_of, Past, then_past, past_of}
-use Rattle.image.specs.History.{beginning_in, start_in, Lived, LivesOn, loaded_by, BeginsBy, LivesSince}
+use Rattle.image.specs.Format.{numbers_of}
+use Rattle.image.specs.Load.{image_checks, load_of}
+use Rattle.image.specs.Calls.{after_load, load_reply, reply_of, Story, story_of, load_turn, turn_of, past_of}
+use Rattle.image.specs.History.{beginning_in, start_in, LivesOn, loaded_by, BeginsBy, LivesSince}
 
 -- what load asks of the memory depends on its size and its mark alone
 asked : (bytes : List ℕ) (m : Meaning) (s : Ijvm) → length m.words ≡ length s.words → m.mark ≡ s.mark → load_of bytes m ≡ load_of bytes (record { words = s.words; mark = s.mark })

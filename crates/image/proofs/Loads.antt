@@ -1,25 +1,22 @@
 -- Load, from what the view of the image and the machine's load answer.
-use Rattle.std.proofs.Common.{◌≡◌, ℕ, ◌==◌, Bool, true, false, List, [], ◌∷◌, ◌++◌, Ok, Err, Result, Some, None, Option, sym, refl, ap, subst, ◌∙◌}
+use Rattle.std.proofs.Common.{◌≡◌, ℕ, ◌==◌, Bool, true, false, List, [], ◌++◌, Ok, Err, Result, Some, None, Option, sym, refl, ap, subst, ◌∙◌}
 use Rattle.memory.specs.Meaning.{Meaning, size_of}
-use Rattle.instructions.specs.declared.cases.Case.{Case}
-use Rattle.instructions.specs.Machine.{Ijvm}
 use Rattle.instructions.specs.Checks.{checked, first_refusal}
 use Rattle.ijvm.specs.declared.numbers.Numbers.{Numbers}
 use Rattle.ijvm.specs.declared.refusal.StartRefusal.{StartRefusal}
 use Rattle.ijvm.specs.declared.refusal.StartRefusal.TheVariants.{OtherSize as StartOtherSize, Marked as StartMarked}
 use Rattle.ijvm.specs.Kit.{Kit}
-use Rattle.ijvm.specs.Start.{memory_checks, start_of, started_of, after_start}
-use Rattle.ijvm.specs.History.{Beginning, beginning_of, Came, GoesOn, Begins, Continues}
+use Rattle.ijvm.specs.Start.{memory_checks, start_of}
+use Rattle.ijvm.specs.History.{beginning_of, Came, Begins, Continues}
 use Rattle.image.specs.declared.refusal.LoadRefusal.{LoadRefusal}
 use Rattle.image.specs.declared.refusal.LoadRefusal.TheVariants.{OtherSize, Marked}
 use Rattle.image.specs.Format.{numbers_of, protected_of}
 use Rattle.image.specs.Refusals.{of_start}
-use Rattle.image.specs.Load.{accepted, image_checks, load_checks, by_memory, load_of}
+use Rattle.image.specs.Load.{accepted, image_checks, by_memory, load_of}
 use Rattle.image.specs.Calls.{after_load, load_turn, past_of}
 use Rattle.image.specs.declared.calls.Call.{Call}
-use Rattle.image.specs.declared.calls.Call.TheVariants.{Load, Step, Run, Look}
 use Rattle.image.specs.declared.calls.Answer.{Answer}
-use Rattle.image.specs.declared.calls.Answer.TheVariants.{Loaded, Stepped, Ran, Looked}
+use Rattle.image.specs.declared.calls.Answer.TheVariants.{Loaded}
 use Rattle.image.specs.History.{beginning_in, start_in, Lived, BeginsHistory, BeginsBy, loaded_by}
 use Rattle.image.proofs.Appended.{refused, passed, both_pass}
 use Rattle.image.proofs.Histories.{load_goes_on}

@@ -1,6 +1,5 @@
 -- Lists of calls: what each call of a machine answers and leaves, and what it is to the instruction machine.
 use Rattle.std.specs.Prelude.{ℕ, List, [], ◌∷◌, ◌++◌, Ok, Err, Result}
-use Rattle.memory.specs.Meaning.{Meaning}
 use Rattle.instructions.specs.declared.cases.Case.{Case}
 use Rattle.instructions.specs.Machine.{Ijvm}
 use Rattle.ijvm.specs.Kit.{Kit, shows}

@@ -1,1 +1,3 @@
 pub mod TwoCalls
+pub mod Summing
+pub mod Examples

@@ -3,6 +3,8 @@
 
 mod lines;
 mod running;
+mod worked;
 
 pub use lines::Report;
 pub use running::{memory_size, run_image};
+pub use worked::the_worked_cases;

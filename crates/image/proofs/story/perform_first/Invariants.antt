@@ -1,4 +1,4 @@
-use Rattle.std.proofs.Common.{◌≡◌, take, drop, length}
+use Rattle.std.proofs.Common.{◌≡◌, take, drop}
 use Rattle.ijvm.specs.Kit.{kit_of}
 use Rattle.image.specs.Calls.{story_of}
 use Rattle.image.specs.History.{LivesSince}

@@ -1,9 +1,9 @@
 -- The check leaves this open: the step that is refused, and the end.
-use Rattle.std.proofs.Common.{◌≡◌, ◌+◌, Some, None, sym, ap, ◌∙◌, arith}
+use Rattle.std.proofs.Common.{◌≡◌, Some, sym, ap, ◌∙◌}
 use Rattle.ijvm.specs.declared.answers.Ran.{Ran}
 use Rattle.ijvm.specs.Kit.{Kit, kit_of}
 use Rattle.ijvm.specs.Calls.{Reply, stop, later, ran_of}
-use Rattle.ijvm.proofs.Steps.{ended, run_stops, run_all}
+use Rattle.ijvm.proofs.Steps.{ended, run_stops}
 use Rattle.ijvm.proofs.machine_type.Machine.ran.Goals as goal
 
 pub returns-in-Err : goal.returns-in-Err
