@@ -1,19 +1,11 @@
 // The case that an opcode is, and the checks that a step makes of it.
-ghost use Rattle.std.specs.Prelude.{◌≡◌, ◌^◌, ◌<◌, Ok};
+ghost use Rattle.std.specs.Prelude.{◌≡◌, ◌^◌, ◌<◌};
 ghost use Rattle.instructions.specs.Step.{wide_of, case_of, whole, in_pool, callable, needed_of, has_variable, was_called, has_room, lands_in, allowed_of, step_of};
-ghost use Rattle.instructions.specs.Checks.{checked};
 ghost use Rattle.checks.specs.Shown.{seen};
 
 use crate::Shown;
-use instructions::{Case, Opcode, Shape, StepRefusal, Variable, Way};
+use instructions::{Case, Opcode, Shape, StepRefusal, Variable, Way, check};
 use memory::Memory;
-
-// A check, and the refusal where it fails.
-fn check(passes: bool, refusal: StepRefusal) -> Result<(), StepRefusal>
-    ensures { result ≡ checked passes refusal (Ok tt) }
-{
-    if passes { Ok(()) } else { Err(refusal) }
-}
 
 impl<M: Memory> Shown<'_, M> {
     // WIDE: its second byte in code, and there the opcode of ILOAD or ISTORE.

@@ -2,7 +2,7 @@
 ghost use Rattle.std.specs.Prelude.{◌≡◌, ℕ, ◌+◌, ◌^◌, ◌<◌, Ok};
 ghost use Rattle.datapath.specs.Cycle.{byte_in};
 ghost use Rattle.memory.specs.Meaning.{size_of};
-ghost use Rattle.instructions.specs.Checks.{checked, first_refusal};
+ghost use Rattle.instructions.specs.Checks.{first_refusal};
 ghost use Rattle.ijvm.specs.Kit.{kit_of};
 ghost use Rattle.ijvm.specs.Start.{Fits, memory_checks, filled_word, filled_words, start_words, fresh_of, after_start};
 ghost use Rattle.ijvm.specs.Turns.{start_turn};
@@ -11,17 +11,11 @@ ghost use Rattle.ijvm.specs.History.{Begins, Continues};
 use crate::{Layout, Machine, Numbers, Program, StartRefusal};
 use control::Registers;
 use datapath::State;
+use instructions::check;
 use memory::Memory;
 
 // The line at which an instruction begins.
 const MAIN1: u16 = 0x100;
-
-// A check, and the refusal where it fails.
-fn check(passes: bool, refusal: StartRefusal) -> Result<(), StartRefusal>
-    ensures { result ≡ checked passes refusal (Ok tt) }
-{
-    if passes { Ok(()) } else { Err(refusal) }
-}
 
 // What is asked of the memory that a program is loaded into.
 fn fits<M: Memory>(memory: &M, numbers: Numbers) -> Result<(), StartRefusal>

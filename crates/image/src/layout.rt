@@ -1,6 +1,6 @@
 // The numbers of block 0, and what is asked of them.
-ghost use Rattle.std.specs.Prelude.{◌≡◌, IfOk, Ok};
-ghost use Rattle.instructions.specs.Checks.{checked, first_refusal};
+ghost use Rattle.std.specs.Prelude.{◌≡◌, IfOk};
+ghost use Rattle.instructions.specs.Checks.{first_refusal};
 ghost use Rattle.image.specs.Format.{blocks_for, blocks_of, numbers_of, params_of};
 ghost use Rattle.image.specs.Load.{accepted, main_fits, mark_fits, number_checks, pool_fits, size_fits};
 
@@ -8,13 +8,7 @@ use crate::blocks::blocks;
 use crate::bytes::{code_short, word};
 use crate::{LoadRefusal, Place};
 use ijvm::{Layout, Numbers};
-
-// A check, and the refusal where it fails.
-pub(crate) fn check(passes: bool, refusal: LoadRefusal) -> Result<(), LoadRefusal>
-    ensures { result ≡ checked passes refusal (Ok tt) }
-{
-    if passes { Ok(()) } else { Err(refusal) }
-}
+use instructions::check;
 
 // How many blocks carry so many protected words.
 fn blocks_for(mark: u32) -> usize

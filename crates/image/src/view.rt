@@ -7,9 +7,10 @@ ghost use Rattle.image.specs.Load.{accepted, image_checks};
 use crate::LoadRefusal;
 use crate::blocks::{blocks, failed_block, length_fits};
 use crate::bytes::{protected_word, word};
-use crate::layout::{check, layout};
+use crate::layout::layout;
 use crate::unused::all_clean;
 use ijvm::{Layout, Program};
+use instructions::check;
 
 // The bytes, lent, and the numbers that stand in them, which fit.
 #[derive(Clone, Copy)]

@@ -4,6 +4,7 @@
 mod cases;
 mod opcodes;
 mod refusal;
+mod refusing;
 mod shapes;
 mod summing_method;
 mod theorems;
@@ -12,6 +13,7 @@ mod timing;
 pub use cases::Case;
 pub use opcodes::Opcode;
 pub use refusal::StepRefusal;
+pub use refusing::check;
 pub use shapes::{Shape, Stack, Variable, Way, a_case_is_performed_where_it_applies};
 pub use summing_method::{a_turn_takes_51_cycles, the_loop_takes, the_summing_method_takes};
 pub use theorems::{
