@@ -1,10 +1,7 @@
 // Runs an image: reads it from standard input, loads it, runs up to 1,000,000 steps, and prints where that ended.
 #![tactic(auto)]
 
-use control::Registers;
-use ijvm::Machine;
-use memory::WordMemory;
-use report::{memory_size, run_image};
+use report::{memory_size, run_in};
 use std::io::Read;
 
 // As many bytes as are read, and as many steps as are made.
@@ -17,8 +14,6 @@ fn main(rt: HostRuntime) -> anyhow::Result<()> {
     let mut image = Vec::new(heap);
     rt.stdin().take(MOST_BYTES).read_to_end(&mut image)?;
     let mut words = vec![in heap; 0u32; memory_size(&image)]?;
-    let memory = WordMemory::make(words.as_mut_slice());
-    let mut machine = Machine::power(memory, Registers::default(), 0, 0);
-    println!(rt; "{}", run_image(&mut machine, &image, MOST_STEPS))?;
+    println!(rt; "{}", run_in(words.as_mut_slice(), &image, MOST_STEPS))?;
     Ok(())
 }

@@ -3,8 +3,9 @@ use Rattle.std.specs.Prelude.{ℕ, ℤ, ◌&&◌, cond, List, [], ◌∷◌, ◌
 use Rattle.std.specs.Fmt.{signed_decimal}
 use Rattle.std.specs.Int.{cast_signed, w32}
 use Rattle.std.specs.Option.{option_map}
+use Rattle.memory.specs.Meaning.{Meaning}
 use Rattle.ijvm.specs.Kit.{Kit, shows}
-use Rattle.ijvm.specs.Calls.{Reply, ran_of, top_of}
+use Rattle.ijvm.specs.Calls.{Reply, powered_of, ran_of, top_of}
 use Rattle.ijvm.specs.Refusals.{stop_number}
 use Rattle.ijvm.specs.declared.answers.Ran.{Ran}
 use Rattle.image.specs.declared.refusal.LoadRefusal.{LoadRefusal}
@@ -46,3 +47,12 @@ top_text (Some top) = signed_decimal top
 abbrev pub report_text : Report → List ℕ
 report_text r =
     codes "end " ++ (decimal r.end ++ (newline ++ (codes "steps " ++ (decimal r.steps ++ (newline ++ (codes "cycles " ++ (decimal r.cycles ++ (newline ++ (codes "top " ++ top_text r.top)))))))))
+
+-- A machine over a memory, as the program makes it: powered with registers, MBR and MPC 0.
+abbrev pub new_machine : Meaning → Kit
+new_machine memory =
+    powered_of memory (record { h = 0; opc = 0; tos = 0; cpp = 0; lv = 0; sp = 0; pc = 0; mdr = 0; mar = 0 }) 0 0
+
+-- The memory of a machine into which an image is loaded, and which then runs up to so many steps.
+abbrev pub memory_by : List ℕ → ℕ → Kit → Meaning
+memory_by bytes steps k = (ran_of steps (load_reply bytes k).after).after.micro.memory

@@ -6,5 +6,5 @@ mod running;
 mod worked;
 
 pub use lines::Report;
-pub use running::{memory_size, run_image};
+pub use running::{memory_size, run_image, run_in};
 pub use worked::the_worked_cases;

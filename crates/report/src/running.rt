@@ -3,12 +3,14 @@ ghost use Rattle.std.specs.Prelude.{◌≡◌, [], ◌∷◌};
 ghost use Rattle.ijvm.specs.Kit.{kit_of};
 ghost use Rattle.ijvm.specs.Calls.{ran_of};
 ghost use Rattle.image.specs.Calls.{load_reply};
-ghost use Rattle.report.specs.Report.{memory_size_of, report_of, report_by};
+ghost use Rattle.memory.specs.Cells.{made_of, usable, unused};
+ghost use Rattle.report.specs.Report.{memory_size_of, report_by, new_machine, memory_by};
 
 use crate::Report;
+use control::Registers;
 use ijvm::{Machine, Ran};
 use image::{Answer, Call, perform};
-use memory::Memory;
+use memory::{Cell, LentMemory, Memory};
 
 // The size of the memory for an image: its word 1, if that is there and from 16 to 8,192; else 8,192.
 pub fn memory_size(bytes: &[u8]) -> usize
@@ -69,4 +71,35 @@ pub fn run_image<M: Memory>(machine: &mut Machine<M>, bytes: &[u8], steps: u64) 
             top: None,
         },
     }
+}
+
+// A report, and the buffer that was lent for it.
+#[derive(Drop)]
+struct Lent<'a, C> {
+    report: Report,
+    cells: &'a mut [C],
+}
+
+// The same in a lent buffer, which comes back.
+fn run_over<'a, C: Cell>(cells: &'a mut [C], bytes: &[u8], steps: u64) -> Lent<'a, C>
+    ensures report { result.report ≡ report_by bytes.now steps (new_machine (made_of C.PER_WORD C.base (C.digits cells.old))) }
+    ensures lender { result.cells.ghost_name ≡ cells.entry.ghost_name }
+    ensures words { usable C.PER_WORD C.base (C.digits result.cells.now) ≡ (memory_by bytes.now steps (new_machine (made_of C.PER_WORD C.base (C.digits cells.old)))).words }
+    ensures unused { unused C.PER_WORD (C.digits result.cells.now) ≡ unused C.PER_WORD (C.digits cells.old) }
+{
+    let mut machine = Machine::power(LentMemory::make(cells), Registers::default(), 0, 0);
+    let report = run_image(&mut machine, bytes, steps);
+    Lent {
+        report,
+        cells: machine.into_memory().into_cells(),
+    }
+}
+
+// Runs an image in a memory over a lent buffer, of words or of bytes; what the program prints of that. The lender knows what its buffer holds afterwards.
+pub fn run_in<C: Cell>(cells: &mut [C], bytes: &[u8], steps: u64) -> Report
+    ensures report { result ≡ report_by bytes.now steps (new_machine (made_of C.PER_WORD C.base (C.digits cells.old))) }
+    ensures words { usable C.PER_WORD C.base (C.digits cells.new) ≡ (memory_by bytes.now steps (new_machine (made_of C.PER_WORD C.base (C.digits cells.old)))).words }
+    ensures unused { unused C.PER_WORD (C.digits cells.new) ≡ unused C.PER_WORD (C.digits cells.old) }
+{
+    run_over(cells, bytes, steps).report
 }
