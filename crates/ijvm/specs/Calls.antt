@@ -39,10 +39,12 @@ pub record Reply (A : Type 0) : Type 0 where
 abbrev pub performed_of : Kit → Gone → Reply (Result ℕ StepRefusal)
 performed_of k gone = record { answer = Ok gone.done; after = record { micro = gone.after; pool = k.pool } }
 
+-- By the case that is performed, or by the refusal.
 abbrev pub step_by : Kit → Result Case StepRefusal → Reply (Result ℕ StepRefusal)
 step_by k (Ok c) = performed_of k (go_of published (cycles_of c) k.micro)
 step_by k (Err refusal) = record { answer = Err refusal; after = k }
 
+-- A step of a machine: 39 where it shows no state, else what the checks of its state say.
 unfoldable pub stepped_of : Kit → Reply (Result ℕ StepRefusal)
 stepped_of k = step_by k (step_from (shows k))
 
@@ -54,10 +56,12 @@ stop k stopped = record { answer = record { steps = 0; stopped = stopped }; afte
 abbrev pub later : ℕ → Reply Ran → Reply Ran
 later i r = record { answer = record { steps = i + r.answer.steps; stopped = r.answer.stopped }; after = r.after }
 
+-- After a step that was performed the rest follows; one that is refused ends the run.
 abbrev pub run_on : (Kit → Reply Ran) → Kit → Result ℕ StepRefusal → Reply Ran
 run_on rest next (Ok cycles) = later 1 (rest next)
 run_on rest next (Err refusal) = stop next (Some refusal)
 
+-- Up to n steps.
 unfoldable pub ran_of : ℕ → Kit → Reply Ran
 ran_of zero k = stop k None
 ran_of (suc n) k = run_on (ran_of n) (stepped_of k).after (stepped_of k).answer
@@ -66,6 +70,7 @@ ran_of (suc n) k = run_on (ran_of n) (stepped_of k).after (stepped_of k).answer
 abbrev pub look_at : Ijvm → ℕ → Result ℕ LookRefusal
 look_at s a = cond (nat_lt a (size_of s)) (Ok (word_at s a)) (Err OutOfRange)
 
+-- Look at whatever a machine shows.
 abbrev pub look_of : Option Ijvm → ℕ → Result ℕ LookRefusal
 look_of None a = Err NotLoaded
 look_of (Some s) a = look_at s a

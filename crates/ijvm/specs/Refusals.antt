@@ -27,12 +27,15 @@ abbrev pub look_reason : LookRefusal → List ℕ
 look_reason OutOfRange = codes "the address is not below the size"
 look_reason NotLoaded = codes "no program is loaded"
 
+-- With the number before it.
 abbrev pub look_text : LookRefusal → List ℕ
 look_text refusal = codes "refused " ++ (decimal (look_number refusal) ++ (codes ": " ++ look_reason refusal))
 
+-- The refusals of a start, likewise.
 abbrev pub start_reason : StartRefusal → List ℕ
 start_reason OtherSize = codes "the memory has another size than the image is for"
 start_reason Marked = codes "the memory's mark is not 0"
 
+-- With the number before it.
 abbrev pub start_text : StartRefusal → List ℕ
 start_text refusal = codes "refused " ++ (decimal (start_number refusal) ++ (codes ": " ++ start_reason refusal))

@@ -26,9 +26,11 @@ memory_checks n m = (size_of m == n.size) else OtherSize ∷ ((m.mark == 0) else
 abbrev pub filled_word : Numbers → (ℕ → ℕ) → ℕ → ℕ
 filled_word n word a = cond (nat_lt a n.mark) (word a) 0
 
+-- All of them, by their addresses.
 abbrev pub filled_words : Numbers → (ℕ → ℕ) → List ℕ
 filled_words n word = map (filled_word n word) (range_with_len 0 n.size)
 
+-- With the link at the mark.
 unfoldable pub start_words : Numbers → (ℕ → ℕ) → List ℕ
 start_words n word = slice_set (filled_words n word) n.mark (n.mark + 1 + n.locals)
 

@@ -28,6 +28,7 @@ abbrev pub step_turn_by : Ijvm → Result Case StepRefusal → Turn (Result ℕ 
 step_turn_by s (Ok c) = record { answer = Ok (cycles_of c); performed = c ∷ []; state = effect_of c s }
 step_turn_by s (Err refusal) = still (Err refusal) s
 
+-- By what its list of checks says.
 abbrev pub step_turn : Ijvm → Turn (Result ℕ StepRefusal)
 step_turn s = step_turn_by s (step_of s)
 
@@ -35,10 +36,12 @@ step_turn s = step_turn_by s (step_of s)
 abbrev pub after_step : Case → Turn Ran → Turn Ran
 after_step c t = record { answer = record { steps = 1 + t.answer.steps; stopped = t.answer.stopped }; performed = c ∷ t.performed; state = t.state }
 
+-- After a step that is performed the rest of the run follows; one that is refused ends it.
 abbrev pub run_turn_by : (Ijvm → Turn Ran) → Ijvm → Result Case StepRefusal → Turn Ran
 run_turn_by rest s (Ok c) = after_step c (rest (effect_of c s))
 run_turn_by rest s (Err refusal) = still (record { steps = 0; stopped = Some refusal }) s
 
+-- Up to n steps.
 unfoldable pub run_turn : ℕ → Ijvm → Turn Ran
 run_turn zero s = still (record { steps = 0; stopped = None }) s
 run_turn (suc n) s = run_turn_by (run_turn n) s (step_of s)

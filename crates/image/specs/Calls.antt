@@ -19,6 +19,7 @@ abbrev pub after_load : List ℕ → Kit → Result (Unit {0}) LoadRefusal → K
 after_load bytes k (Ok _) = started_of (numbers_of bytes) (protected_of bytes)
 after_load bytes k (Err refusal) = k
 
+-- What a load answers and leaves.
 abbrev pub load_reply : List ℕ → Kit → Reply (Result (Unit {0}) LoadRefusal)
 load_reply bytes k = record { answer = load_of bytes k.micro.memory; after = after_load bytes k (load_of bytes k.micro.memory) }
 
@@ -26,6 +27,7 @@ load_reply bytes k = record { answer = load_of bytes k.micro.memory; after = aft
 abbrev pub replying : {A : Type 0} → (A → Answer) → Reply A → Reply Answer
 replying as_answer r = record { answer = as_answer r.answer; after = r.after }
 
+-- What each call answers and leaves.
 abbrev pub reply_of : Call → Kit → Reply Answer
 reply_of (Load bytes) k = replying Loaded (load_reply bytes.now k)
 reply_of Step k = replying Stepped (stepped_of k)
@@ -37,9 +39,11 @@ pub record Story : Type 0 where
   pub answers : List Answer
   pub after : Kit
 
+-- A reply, and what comes after it.
 abbrev pub and_then : Reply Answer → (Kit → Story) → Story
 and_then r rest = record { answers = r.answer ∷ (rest r.after).answers; after = (rest r.after).after }
 
+-- The story of a list of calls.
 unfoldable pub story_of : List Call → Kit → Story
 story_of [] k = record { answers = []; after = k }
 story_of (call ∷ calls) k = and_then (reply_of call k) (story_of calls)
@@ -48,9 +52,11 @@ story_of (call ∷ calls) k = and_then (reply_of call k) (story_of calls)
 abbrev pub load_turn : List ℕ → Ijvm → Turn (Result (Unit {0}) LoadRefusal)
 load_turn bytes s = still (load_of bytes (record { words = s.words; mark = s.mark })) s
 
+-- A turn, with its answer among those of all calls.
 abbrev pub answering : {A : Type 0} → (A → Answer) → Turn A → Turn Answer
 answering as_answer t = record { answer = as_answer t.answer; performed = t.performed; state = t.state }
 
+-- The turn of each call.
 abbrev pub turn_of : Call → Ijvm → Turn Answer
 turn_of (Load bytes) s = answering Loaded (load_turn bytes.now s)
 turn_of Step s = answering Stepped (step_turn s)
@@ -63,6 +69,7 @@ pub record Past : Type 0 where
   pub performed : List Case
   pub state : Ijvm
 
+-- A turn, and what comes after it.
 abbrev pub then_past : Turn Answer → (Ijvm → Past) → Past
 then_past t rest = record {
   answers = t.answer ∷ (rest t.state).answers;
@@ -70,6 +77,7 @@ then_past t rest = record {
   state = (rest t.state).state;
 }
 
+-- The turns of a list of calls.
 unfoldable pub past_of : List Call → Ijvm → Past
 past_of [] s = record { answers = []; performed = []; state = s }
 past_of (call ∷ calls) s = then_past (turn_of call s) (past_of calls)

@@ -29,10 +29,11 @@ failed_block bytes = position (λ k. not (adds_up bytes k)) (range_with_len 0 (b
 abbrev pub protected_of : List ℕ → ℕ → ℕ
 protected_of bytes a = word_of bytes (128 * (1 + a / 127) + a % 127)
 
--- The byte of the protected words at a byte address, and the unsigned number in two of them.
+-- The byte of the protected words at a byte address.
 abbrev pub code_byte : List ℕ → ℕ → ℕ
 code_byte bytes a = byte_in (protected_of bytes (a / 4)) a
 
+-- The number in two bytes, the first of them the higher.
 abbrev pub code_short : List ℕ → ℕ → ℕ
 code_short bytes a = code_byte bytes a * 2 ^ 8 + code_byte bytes (a + 1)
 
@@ -63,5 +64,6 @@ is_used mark i = (i % 128 == 127) || cond (nat_lt i 128) (nat_lt i 6) (nat_lt (1
 abbrev pub is_clean : (mark : ℕ) → List ℕ → ℕ → Bool
 is_clean mark bytes b = is_used mark (b / 4) || slice_index bytes b == 0
 
+-- So it is of each byte of the image.
 abbrev pub all_clean : (mark : ℕ) → List ℕ → Bool
 all_clean mark bytes = list_all (is_clean mark bytes) (range_with_len 0 (length bytes))

@@ -14,10 +14,11 @@ use Rattle.image.specs.Format.{numbers_of, protected_of}
 use Rattle.image.specs.Load.{image_checks}
 use Rattle.image.specs.Calls.{past_of}
 
--- The beginning that an image's accepted load makes, and the instruction machine as it starts it.
+-- The beginning that an accepted load of an image makes.
 abbrev pub beginning_in : List ℕ → Beginning
 beginning_in image = beginning_of (numbers_of image) (protected_of image)
 
+-- The state in which the instruction machine is started.
 abbrev pub start_in : List ℕ → Ijvm
 start_in image = start_of (numbers_of image) (protected_of image)
 

@@ -7,6 +7,7 @@ use Rattle.image.specs.declared.refusal.Place.TheVariants.{Size, Mark, Pool, Mai
 use Rattle.image.specs.declared.refusal.LoadRefusal.{LoadRefusal}
 use Rattle.image.specs.declared.refusal.LoadRefusal.TheVariants.{WrongLength, FailedCheck, WrongCount, WrongNumber, NotZero, OtherSize, Marked}
 
+-- 20 to 26, in the order in which load makes its checks.
 abbrev pub load_number : LoadRefusal → ℕ
 load_number WrongLength = 20
 load_number (FailedCheck block) = 21
@@ -40,6 +41,7 @@ place_reason Mark = codes "the mark is 0 or not below the size, or asks for anot
 place_reason Pool = codes "the constant pool does not lie below the mark"
 place_reason Main = codes "main does not begin in code, has not 1 param, or has no room for its frame"
 
+-- Why the image is refused, in words.
 abbrev pub load_reason : LoadRefusal → List ℕ
 load_reason WrongLength = codes "the length is below 1024 bytes, or no multiple of 512"
 load_reason (FailedCheck block) = codes "the words of block " ++ (decimal block ++ codes " do not add up to its number")
@@ -49,6 +51,7 @@ load_reason NotZero = codes "an unused byte is not zero"
 load_reason OtherSize = codes "the memory has another size than the image is for"
 load_reason Marked = codes "the memory's mark is not 0"
 
+-- With the number before it.
 abbrev pub load_text : LoadRefusal → List ℕ
 load_text refusal = codes "refused " ++ (decimal (load_number refusal) ++ (codes ": " ++ load_reason refusal))
 

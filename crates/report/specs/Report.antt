@@ -40,10 +40,12 @@ report_by bytes steps k = report_of (load_reply bytes k).answer (ran_of steps (l
 abbrev pub newline : List ℕ
 newline = 10 ∷ []
 
+-- The top, or `-` where there is none.
 abbrev pub top_text : Option ℤ → List ℕ
 top_text None = codes "-"
 top_text (Some top) = signed_decimal top
 
+-- The lines, one below the other.
 abbrev pub report_text : Report → List ℕ
 report_text r =
     codes "end " ++ (decimal r.end ++ (newline ++ (codes "steps " ++ (decimal r.steps ++ (newline ++ (codes "cycles " ++ (decimal r.cycles ++ (newline ++ (codes "top " ++ top_text r.top)))))))))

@@ -10,10 +10,11 @@ use Rattle.image.specs.Calls.{load_reply}
 use Rattle.report.specs.declared.lines.Report.{Report}
 use Rattle.report.specs.Report.{report_by}
 
--- The bytes of a word, the most significant first; the bytes of words.
+-- The bytes of a word, the most significant first.
 abbrev pub word_bytes : ℕ → List ℕ
 word_bytes w = w / 2 ^ 24 ∷ (w / 2 ^ 16 % 2 ^ 8 ∷ (w / 2 ^ 8 % 2 ^ 8 ∷ (w % 2 ^ 8 ∷ [])))
 
+-- The bytes of words in a row.
 abbrev pub words_bytes : List ℕ → List ℕ
 words_bytes [] = []
 words_bytes (w ∷ ws) = word_bytes w ++ words_bytes ws
