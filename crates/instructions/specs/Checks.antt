@@ -6,7 +6,6 @@ pub record Check (R : Type 0) : Type 0 where
   pub passes : Bool
   pub refusal : R
 
--- Written: the check, `else` its refusal.
 infixr 75 ◌else◌
 abbrev pub ◌else◌ : {R : Type 0} → Bool → R → Check R
 passes else refusal = record { passes = passes; refusal = refusal }
