@@ -63,7 +63,7 @@ fn print_stack<M: Memory>(rt: &impl Print, machine: &Machine<M>) -> Result<()> {
     let registers = machine.state().registers;
     let link = machine.look(registers.lv)?;
     print!(rt; "stack")?;
-    for address in link.saturating_add(2)..=registers.sp {
+    for address in link.saturating_add(2)..registers.sp.saturating_add(1) {
         print!(rt; " {}", machine.look(address)?.cast_signed())?;
     }
     println!(rt)?;
