@@ -87,6 +87,23 @@ fn fault_edges(rt: &impl Print) -> Result<()> {
     Ok(())
 }
 
+// MAR = H; rd; fetch; goto 0x006, and there MDR = 1; goto (MBR): the jump takes the byte that was held, and what arrives wins over what is loaded.
+fn arrivals(rt: &impl Print) -> Result<()> {
+    let mut numbers = [0u64; 512];
+    numbers[5] = 0x3018_00B0;
+    numbers[6] = 0x431_0100;
+    let mut store = ControlStore::new();
+    store.fill(&numbers)?;
+    let mut words = [0x7712_3456; 16];
+    let memory = WordMemory::make(&mut words);
+    let mut machine = Datapath::power(memory, Registers::default(), 0x22, 5);
+    machine.go(&store, 2);
+    let state = machine.state();
+    let (mpc, mbr, mdr) = (state.mpc, state.mbr, state.registers.mdr);
+    println!(rt; "  MBR was 0x22: MPC 0x{mpc:03X}, then MBR 0x{mbr:02X}, MDR 0x{mdr:08X}")?;
+    Ok(())
+}
+
 pub fn cycle_edges(rt: &impl Print) -> Result<()> {
     println!(rt; "POWER")?;
     power_edges(rt)?;
@@ -94,5 +111,9 @@ pub fn cycle_edges(rt: &impl Print) -> Result<()> {
         "FAULTS OF A CYCLE, over 16 words with mark 4: each word is done at MPC 5, and what it begins is completed in the next cycle"
     )?;
     fault_edges(rt)?;
+    println!(rt;
+        "ARRIVALS: goto (MBR) in the cycle in which a byte arrives, MDR = 1 in that in which a word arrives"
+    )?;
+    arrivals(rt)?;
     Ok(())
 }

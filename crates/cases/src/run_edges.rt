@@ -1,4 +1,5 @@
-// What step, run and look answer of a machine that is not loaded, at their limits, and with a write under way; and calls in a list.
+// What run, look and cycle do at their limits: budgets, a write under way, a cycle of a loaded machine, a load of a machine that was under way, and a call.
+use crate::call_lists::print_answer;
 use crate::sketch::Sketch;
 use crate::summing::summing_image;
 use crate::trial::loaded;
@@ -6,104 +7,9 @@ use anyhow::Result;
 use control::{ControlStore, Registers};
 use datapath::DataAccess;
 use ijvm::Machine;
-use image::{Answer, Call, load, perform};
-use memory::{ByteMemory, Memory, WordMemory};
+use image::{Answer, load};
+use memory::{Memory, WordMemory};
 use std::alloc::Global;
-
-// An answer as text.
-fn print_answer(rt: &impl Print, answer: &Answer) -> Result<()> {
-    match answer {
-        Answer::Loaded(Ok(())) => println!(rt; "accepted")?,
-        Answer::Loaded(Err(refusal)) => println!(rt; "refused {}", refusal.number())?,
-        Answer::Stepped(Ok(cycles)) => println!(rt; "{cycles} cycles")?,
-        Answer::Stepped(Err(refusal)) => println!(rt; "refused {}", refusal.number())?,
-        Answer::Ran(ran) => println!(rt; "{} steps, {}", ran.steps, ran.number())?,
-        Answer::Looked(Ok(word)) => println!(rt; "{}", word.cast_signed())?,
-        Answer::Looked(Err(refusal)) => println!(rt; "refused {}", refusal.number())?,
-    }
-    Ok(())
-}
-
-fn print_call(rt: &impl Print, call: &Call<'_>) -> Result<()> {
-    match call {
-        Call::Load(bytes) => print!(rt; "  load of {} bytes: ", bytes.len())?,
-        Call::Step => print!(rt; "  step: ")?,
-        Call::Run(n) => print!(rt; "  run {n}: ")?,
-        Call::Look(address) => print!(rt; "  look {address}: ")?,
-    }
-    Ok(())
-}
-
-// Calls in a list, over any memory, and their answers.
-fn show<M: Memory + Drop>(rt: &impl Print, memory: M, calls: &[Call<'_>]) -> Result<()> {
-    let registers = Registers::default();
-    let mut machine = Machine::power(memory, registers, 0xFF, 0x100);
-    let mut answers = [Answer::Stepped(Ok(0)); 16];
-    let performed = perform(&mut machine, calls, &mut answers);
-    for (call, answer) in calls.iter().zip(answers.iter().take(performed)) {
-        print_call(rt, call)?;
-        print_answer(rt, answer)?;
-    }
-    Ok(())
-}
-
-// The same list over words and over bytes.
-fn show_both(rt: &impl Print, title: &str, calls: &[Call<'_>]) -> Result<()> {
-    println!(rt; "{title}")?;
-    show(rt, WordMemory::make(&mut [5; 32]), calls)?;
-    println!(rt; "the same over bytes")?;
-    show(rt, ByteMemory::make(&mut [5; 128]), calls)?;
-    Ok(())
-}
-
-fn lists(rt: &impl Print, bytes: &[u8]) -> Result<()> {
-    show_both(
-        rt,
-        "CALLS IN A LIST: before a load, at the limits of look, and a second load",
-        &[
-            Call::Step,
-            Call::Run(5),
-            Call::Run(0),
-            Call::Look(0),
-            Call::Look(32),
-            Call::Load(&[]),
-            Call::Step,
-            Call::Load(bytes),
-            Call::Look(9),
-            Call::Look(31),
-            Call::Look(32),
-            Call::Look(u32::MAX),
-            Call::Load(bytes),
-            Call::Step,
-            Call::Look(14),
-            Call::Run(0),
-        ],
-    )?;
-    show_both(
-        rt,
-        "CALLS IN A LIST: a run to the end, which is not passed; a list longer than its answers",
-        &[
-            Call::Load(bytes),
-            Call::Run(27),
-            Call::Look(15),
-            Call::Run(1),
-            Call::Step,
-            Call::Run(0),
-            Call::Run(1),
-            Call::Look(14),
-            Call::Look(10),
-            Call::Look(11),
-            Call::Load(bytes),
-            Call::Load(&[0; 1024]),
-            Call::Step,
-            Call::Run(1_000_000),
-            Call::Look(15),
-            Call::Look(4),
-            Call::Look(5),
-            Call::Step,
-        ],
-    )
-}
 
 // Runs of the summing image around its 28 steps.
 const BUDGETS: [u64; 6] = [0, 1, 27, 28, 29, 1_000_000];
@@ -143,6 +49,67 @@ fn cycles<M: Memory + Drop>(rt: &impl Print, memory: M, program: &[u8], n: u64) 
     print_answer(rt, &Answer::Loaded(load(&mut machine, program)))
 }
 
+// A load of a machine that has done a cycle of MAR = MDR = H; wr; fetch: nothing of it is left.
+fn load_under_way<M: Memory + Drop>(rt: &impl Print, memory: M, program: &[u8]) -> Result<()> {
+    let registers = Registers {
+        h: 20,
+        opc: 7,
+        tos: 7,
+        ..Registers::default()
+    };
+    let mut machine = Machine::power(memory, registers, 0x85, 5);
+    let mut store = ControlStore::new();
+    store.fill(&[0x3018_01D0; 512])?;
+    machine.cycle(&store)?;
+    let state = machine.state();
+    let (access, fetch) = (state.access.is_some(), state.fetch.is_some());
+    println!(rt;
+        "  before: counter {}, under way: {access} and {fetch}",
+        state.counter
+    )?;
+    load(&mut machine, program)?;
+    let state = machine.state();
+    let r = state.registers;
+    let (access, fetch) = (state.access.is_some(), state.fetch.is_some());
+    println!(rt;
+        "  after: counter {}, under way: {access} and {fetch}",
+        state.counter
+    )?;
+    println!(rt;
+        "    MPC {}, MBR {}, PC {}, SP {}, LV {}, CPP {}",
+        state.mpc, state.mbr, r.pc, r.sp, r.lv, r.cpp
+    )?;
+    println!(rt;
+        "    H {}, OPC {}, TOS {}, MDR {}, MAR {}",
+        r.h, r.opc, r.tos, r.mdr, r.mar
+    )?;
+    println!(rt; "    look 20: {}", machine.look(20)?)?;
+    Ok(())
+}
+
+// BIPUSH 5 and a call of a method without locals.
+fn after_a_call<M: Memory + Drop>(rt: &impl Print, memory: M, program: &[u8]) -> Result<()> {
+    let mut machine = loaded(memory, program)?;
+    machine.run(2);
+    let r = machine.state().registers;
+    let depth_0 = machine.top().is_none();
+    println!(rt;
+        "  LV {}, SP {}, TOS {}, no top: {depth_0}",
+        r.lv, r.sp, r.tos
+    )?;
+    Ok(())
+}
+
+// BIPUSH 5 and a call of the method at byte 11, which has one param.
+const CALL: Sketch<'static> = Sketch {
+    size: 32,
+    mark: 9,
+    locals: 2,
+    cpp: 8,
+    pool: &[11],
+    code: &[0x10, 5, 0xB6, 0, 0, 0, 0, 0, 1, 0, 0],
+};
+
 // BIPUSH 7, at SP 13.
 const BIPUSH: Sketch<'static> = Sketch {
     size: 32,
@@ -166,5 +133,11 @@ pub fn run_edges(rt: &impl Print, heap: Global) -> Result<()> {
     for n in [0u64, 1, 2] {
         cycles(rt, WordMemory::make(&mut [0; 32]), summing.as_slice(), n)?;
     }
-    lists(rt, summing.as_slice())
+    println!(rt; "LOAD of a machine that has done a cycle, with a write and a fetch under way")?;
+    load_under_way(rt, WordMemory::make(&mut [0; 32]), summing.as_slice())?;
+    println!(rt;
+        "RIGHT AFTER INVOKEVIRTUAL: TOS holds the new LV, and is not the top of a stack of depth 0"
+    )?;
+    let call = CALL.image(heap)?;
+    after_a_call(rt, WordMemory::make(&mut [0; 32]), call.as_slice())
 }

@@ -1,9 +1,10 @@
 // What a step performs and what it refuses.
+use crate::frame_cases::{
+    CALLED_FRAME, MANY_VARIABLES, NO_VARIABLE, ROOM, ROOM_OF_CALLS, TWO_VARIABLES,
+};
+use crate::path_cases::{END, NEXT, ORDER};
 use crate::sketch::Sketch;
 use crate::step_cases::{BYTES_OF_CODE, DEPTH, EVERY_CASE, Group, METHODS, POOL, Trial};
-use crate::step_cases_2::{
-    CALLED_FRAME, END, MANY_VARIABLES, NEXT, NO_VARIABLE, ORDER, ROOM, ROOM_OF_CALLS, TWO_VARIABLES,
-};
 use crate::trial::Left;
 use anyhow::Result;
 use memory::{ByteMemory, WordMemory};
