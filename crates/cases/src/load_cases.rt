@@ -30,7 +30,7 @@ pub const UNSEALED: [Edit; 7] = [
 ];
 
 // Changed, and each block with a new check. Words 1 to 5 are size, mark, CPP, pool count and main; from word 128 on stands the method.
-pub const EDITS: [Edit; 58] = [
+pub const EDITS: [Edit; 59] = [
     ("nothing", 2, &[], 32, 0),
     ("word 0 is 1", 2, &[(0, 1)], 32, 0),
     ("word 0 is 3", 2, &[(0, 3)], 32, 0),
@@ -153,6 +153,13 @@ pub const EDITS: [Edit; 58] = [
         2,
         &[(6, 1)],
         33,
+        0,
+    ),
+    (
+        "a memory of 15 words, which make refuses, so that it has none",
+        2,
+        &[],
+        15,
         0,
     ),
     ("a memory of 31 words", 2, &[], 31, 0),
