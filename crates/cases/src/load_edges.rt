@@ -32,7 +32,7 @@ fn edited(heap: Global, blocks: usize, edits: &[(usize, u32)], sealed: bool) -> 
 }
 
 // What a load answered, and what the machine and the memory then hold.
-#[derive(Clone, Copy, Debug, PartialEq, Eq)]
+#[derive(Drop, PartialEq)]
 struct Left {
     answer: Result<(), LoadRefusal>,
     registers: Registers,

@@ -8,7 +8,7 @@ use std::alloc::Global;
 use std::fmt;
 
 // One call of a memory.
-#[derive(Clone, Copy, Debug, PartialEq, Eq)]
+#[derive(Clone, Copy)]
 enum Call {
     Read(u32),
     Write(u32, u32),

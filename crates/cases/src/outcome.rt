@@ -2,7 +2,7 @@
 use std::fmt;
 
 // Accepted, or the number of the refusal.
-#[derive(Clone, Copy, Debug, PartialEq, Eq)]
+#[derive(Drop)]
 pub struct Outcome(pub Option<u32>);
 
 impl fmt::Display for Outcome {

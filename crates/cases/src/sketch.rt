@@ -2,7 +2,7 @@
 use std::alloc::{AllocError, Global};
 
 // The numbers of block 0, but for the number of blocks.
-#[derive(Clone, Copy, Debug, PartialEq, Eq)]
+#[derive(Drop)]
 pub struct Header {
     pub size: u32,
     pub mark: u32,
@@ -70,7 +70,7 @@ pub fn bytes_of(heap: Global, words: &[u32]) -> Result<Vec<u8>, AllocError> {
 }
 
 // A program with main at byte 0, its code from byte 4 on, and its pool where CPP says.
-#[derive(Clone, Copy, Debug, PartialEq, Eq)]
+#[derive(Drop)]
 pub struct Sketch<'a> {
     pub size: u32,
     pub mark: u32,

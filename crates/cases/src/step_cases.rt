@@ -4,7 +4,7 @@
 pub type Trial = (&'static str, &'static [u8], u64);
 
 // Trials in one kind of memory, with one pool.
-#[derive(Clone, Copy, Debug, PartialEq, Eq)]
+#[derive(Drop)]
 pub struct Group {
     pub title: &'static str,
     pub size: u32,

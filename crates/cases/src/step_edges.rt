@@ -60,8 +60,8 @@ fn show_all(rt: &impl Print, heap: Global, group: &Group, trials: &[Trial]) -> R
 }
 
 pub fn step_edges(rt: &impl Print, heap: Global) -> Result<()> {
-    for group in GROUPS {
-        show_all(rt, heap, &group, group.trials)?;
+    for group in &GROUPS {
+        show_all(rt, heap, group, group.trials)?;
     }
     Ok(())
 }

@@ -29,7 +29,7 @@ pub fn summing_image(heap: Global, n: u8) -> Result<Vec<u8>, AllocError> {
 }
 
 // What a run to the end took.
-#[derive(Clone, Copy, Debug, PartialEq, Eq)]
+#[derive(Drop, PartialEq)]
 struct Cost {
     steps: u64,
     number: u32,
