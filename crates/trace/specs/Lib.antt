@@ -1,1 +1,1 @@
-pub mod Method
+pub mod Mnemonics

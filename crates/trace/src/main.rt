@@ -1,35 +1,32 @@
-// Traces the summing method cycle by cycle, and shows where the cycles of a turn of its loop come from.
+// Traces the program of an image cycle by cycle, and shows where the cycles of its loop come from.
 #![tactic(auto)]
 
 mod changes;
 mod labels;
-mod method;
-mod report;
+mod opcode;
 mod run;
+mod turns;
 
-use report::report;
-use run::trace;
-use std::io::{BufRead, BufReader};
+use control::Registers;
+use ijvm::Machine;
+use memory::WordMemory;
+use report::memory_size;
+use run::run;
+use std::io::Read;
 
-// The number of turns that a line asks for: 1 to 127.
-fn turns_in(line: &str) -> Option<u8> {
-    line.trim()
-        .parse()
-        .ok()
-        .filter(|turns| (1..=127).contains(turns))
-}
+// As many bytes as are read.
+const MOST_BYTES: u64 = 32_768;
 
 fn main(rt: HostRuntime) -> anyhow::Result<()> {
     let heap = rt.alloc();
-    let mut line = String::new(heap);
-    // dropped: what cannot be read, or is no text, holds no number
-    let _ = BufReader::new(heap, rt.stdin())?.read_line(&mut line);
-    match turns_in(line.as_str()) {
-        Some(turns) => {
-            let performed = trace(&rt, turns)?;
-            report(&rt, performed.as_slice())?;
-        }
-        None => println!(rt; "give the number of turns, from 1 to 127, on standard input")?,
-    }
-    Ok(())
+    let mut image = Vec::new(heap);
+    rt.stdin().take(MOST_BYTES).read_to_end(&mut image)?;
+    let size = memory_size(&image);
+    let mut words = vec![in heap; 0u32; size]?;
+    let mut same = vec![in heap; 0u32; size]?;
+    let memory = WordMemory::make(words.as_mut_slice());
+    let mut stepped = Machine::power(memory, Registers::default(), 0, 0);
+    let memory = WordMemory::make(same.as_mut_slice());
+    let mut traced = Machine::power(memory, Registers::default(), 0, 0);
+    run(&rt, &mut stepped, &mut traced, &image)
 }

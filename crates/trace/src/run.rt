@@ -1,42 +1,46 @@
-// The method on the machine, cycle by cycle.
+// A program on the machine, cycle by cycle.
 use crate::changes::Changes;
 use crate::labels::label;
-use crate::method::{MARK, Opcode, method_words};
-use anyhow::bail;
-use control::{ControlStore, Registers};
-use datapath::{Datapath, State};
-use memory::{Memory, WordMemory};
+use crate::opcode::Opcode;
+use crate::turns::report;
+use control::ControlStore;
+use ijvm::Machine;
+use image::load;
+use instructions::StepRefusal;
+use memory::Memory;
 use microprogram::published_store;
 
-// The line at which each instruction begins.
-const MAIN1: u16 = 0x100;
+// As many cycles as are traced. No instruction takes fewer than two, so half as many instructions are enough.
+const MOST_CYCLES: u64 = 10_000;
 
-// More cycles than any instruction takes, and more instructions than the method takes for any number of turns: every loop is proved to end, so each counts up to a bound.
-const MOST_CYCLES: u64 = 100;
+const MOST_INSTRUCTIONS: u64 = MOST_CYCLES / 2;
 
-const MOST_INSTRUCTIONS: u32 = 2000;
-
-// An instruction that was performed: where it stood, which it was, and its cycles.
+// An instruction that was performed: where it stood, in which frame, which it was, and its cycles.
 #[derive(Clone, Copy, Debug, PartialEq, Eq)]
 pub struct Performed {
     pub address: u32,
+    pub frame: u32,
     pub opcode: Opcode,
     pub cycles: u64,
 }
 
-// Whether main is about to return.
-fn ends(state: &State) -> bool {
-    state.mpc == MAIN1 && Opcode(state.mbr) == Opcode::IRETURN && state.registers.lv == MARK
+// Why a trace ends.
+#[derive(Clone, Copy, Debug, PartialEq, Eq)]
+enum Ending {
+    // the next step is refused
+    Refused(StepRefusal),
+    // the next instruction would go past the cycles that are traced
+    Cut,
 }
 
-// One instruction, each of its cycles printed.
-fn instruction<M: Memory>(
+// So many cycles, each printed.
+fn cycles<M: Memory>(
     rt: &impl Print,
-    machine: &mut Datapath<M>,
+    machine: &mut Machine<M>,
     store: &ControlStore,
-) -> anyhow::Result<Performed> {
-    let start = machine.state();
-    for cycles in 1..=MOST_CYCLES {
+    count: u64,
+) -> anyhow::Result<()> {
+    for _ in 0..count {
         let before = machine.state();
         machine.cycle(store)?;
         let after = machine.state();
@@ -44,40 +48,61 @@ fn instruction<M: Memory>(
         let line = label(before.mpc);
         let changes = Changes { before, after };
         println!(rt; "{number} {line}:{changes}")?;
-        if after.mpc == MAIN1 {
-            return Ok(Performed {
-                address: start.registers.pc,
-                opcode: Opcode(start.mbr),
-                cycles,
-            });
-        }
     }
-    bail!("an instruction takes more than {MOST_CYCLES} cycles")
+    Ok(())
 }
 
-// The whole method, up to main's return: what was performed.
-pub fn trace<R: Print + AllocGlobal>(rt: &R, turns: u8) -> anyhow::Result<Vec<Performed>> {
+// The instructions of two machines with the same program. One is stepped, and tells how many cycles the instruction takes or why it is refused; the other does these cycles one by one.
+fn trace<R: Print + AllocGlobal, M: Memory>(
+    rt: &R,
+    stepped: &mut Machine<M>,
+    traced: &mut Machine<M>,
+) -> anyhow::Result<(Vec<Performed>, Ending)> {
     let mut performed = Vec::new(rt.alloc());
-    let mut words = method_words(turns);
-    let mut memory = WordMemory::make(&mut words);
-    memory.protect(MARK)?;
-    let registers = Registers {
-        cpp: MARK,
-        lv: MARK,
-        sp: 13,
-        pc: 4,
-        ..Registers::default()
-    };
-    let mut machine = Datapath::power(memory, registers, Opcode::BIPUSH.0, MAIN1);
     let store = published_store();
     for _ in 0..MOST_INSTRUCTIONS {
-        if ends(&machine.state()) {
-            return Ok(performed);
+        let start = traced.state();
+        match stepped.step() {
+            Err(refusal) => return Ok((performed, Ending::Refused(refusal))),
+            Ok(count) => {
+                let total = stepped.state().counter;
+                if total > MOST_CYCLES {
+                    break;
+                }
+                cycles(rt, traced, &store, count)?;
+                let opcode = Opcode(start.mbr);
+                println!(rt; "{opcode}: {count} cycles, {total} in all")?;
+                performed.push(Performed {
+                    address: start.registers.pc,
+                    frame: start.registers.lv,
+                    opcode,
+                    cycles: count,
+                })?;
+            }
         }
-        let done = instruction(rt, &mut machine, &store)?;
-        let total = machine.state().counter;
-        println!(rt; "{}: {} cycles, {total} in all", done.opcode, done.cycles)?;
-        performed.push(done)?;
     }
-    bail!("the method takes more than {MOST_INSTRUCTIONS} instructions")
+    Ok((performed, Ending::Cut))
+}
+
+// Loads the image into both machines, traces its program, and reports on it; of an image that is refused it tells the refusal.
+pub fn run<R: Print + AllocGlobal, M: Memory>(
+    rt: &R,
+    stepped: &mut Machine<M>,
+    traced: &mut Machine<M>,
+    image: &[u8],
+) -> anyhow::Result<()> {
+    if let Err(refusal) = load(stepped, image) {
+        println!(rt; "{refusal}")?;
+        return Ok(());
+    }
+    load(traced, image)?;
+    let (performed, ending) = trace(rt, stepped, traced)?;
+    if let Ending::Refused(refusal) = ending {
+        println!(rt; "{refusal}")?;
+    }
+    report(rt, performed.as_slice())?;
+    if ending == Ending::Cut {
+        println!(rt; "cut off: the next instruction goes past {MOST_CYCLES} cycles")?;
+    }
+    Ok(())
 }

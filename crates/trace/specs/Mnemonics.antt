@@ -1,11 +1,5 @@
--- The summing method, and the instructions by name.
-use Rattle.std.specs.Prelude.{ℕ, ◌+◌, ◌*◌, ◌^◌, cond, List, ◌∷◌, replicate, codes, ◌==◌}
-
--- The words of the memory: nine protected ones with the method, its number of turns in the second byte of the second; then main's link, which points past the two variables; the rest is 0.
-abbrev pub method_words_of : ℕ → List ℕ
-method_words_of turns =
-    0x00010002 ∷ ((0x10003601 + turns * 2 ^ 16) ∷ (0x10003602 ∷ (0x15021501 ∷ (0x60360284 ∷ (0x01FF1501 ∷ (0x990006A7 ∷ (0xFFF11502 ∷ (0xAC000000
-    ∷ (12 ∷ replicate 22 0)))))))))
+-- The instructions by name.
+use Rattle.std.specs.Prelude.{ℕ, cond, List, codes, ◌==◌}
 
 -- The instruction of an opcode, by name.
 abbrev pub mnemonic_text_of : ℕ → List ℕ

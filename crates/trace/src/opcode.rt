@@ -1,42 +1,14 @@
-// The summing method, and the instructions by name.
+// The instructions by name.
 ghost use Rattle.std.specs.Prelude.{◌≡◌, Some};
-ghost use Rattle.trace.specs.Method.{method_words_of, mnemonic_text_of};
+ghost use Rattle.trace.specs.Mnemonics.{mnemonic_text_of};
 
 use std::fmt;
 
-// The mark: the method's words lie below it, and main's local variable frame begins there.
-pub const MARK: u32 = 9;
-
-// The byte address at which each turn of the loop begins, and the one behind the loop.
-pub const HEAD: u32 = 12;
-
-pub const BEHIND: u32 = 30;
-
-// The method for no turns, and main's link, which points past the two variables.
-const METHOD: [u32; 10] = [
-    0x00010002, 0x10003601, 0x10003602, 0x15021501, 0x60360284, 0x01FF1501, 0x990006A7, 0xFFF11502,
-    0xAC000000, 12,
-];
-
-// The words of the memory, for a number of turns.
-pub fn method_words(turns: u8) -> [u32; 32]
-    ensures { result ≡ method_words_of turns }
-{
-    let mut words = [0; 32];
-    words[..10].copy_from_slice(&METHOD);
-    words[1] += u32::from(turns) * 0x10000;
-    words
-}
-
-// An opcode, displayed as the name of its instruction: any byte, since those that are none are displayed too. (trace does not rest on the opcodes of instructions, which name cases.)
+// An opcode, displayed as the name of its instruction: any byte, since those that are none are displayed too. (The opcodes of the instruction machine name cases, and not every byte.)
 #[derive(Clone, Copy, Debug, PartialEq, Eq)]
 pub struct Opcode(pub u8);
 
 impl Opcode {
-    pub const BIPUSH: Opcode = Opcode(0x10);
-
-    pub const IRETURN: Opcode = Opcode(0xAC);
-
     // The name of the instruction: a &str that is chosen whole, which Display then writes.
     fn name(self) -> &'static str
         ensures { result.now ≡ mnemonic_text_of self.0 }
