@@ -13,7 +13,7 @@ use Rattle.instructions.proofs.EveryCase.{every_case, and_then, adds_up}
 use Rattle.instructions.proofs.Nested.{any_calls_nest}
 use Rattle.checks.specs.Shown.{shown_of}
 use Rattle.ijvm.specs.declared.answers.Ran.{Ran}
-use Rattle.ijvm.specs.declared.refusal.LookRefusal.{LookRefusal}
+use Rattle.ijvm.specs.declared.look_refusal.LookRefusal.{LookRefusal}
 use Rattle.ijvm.specs.Kit.{Kit, shows}
 use Rattle.ijvm.specs.Calls.{stepped_of, run_on, ran_of, look_of}
 use Rattle.ijvm.specs.Turns.{step_turn, step_turn_by, run_turn, run_turn_by, look_turn}

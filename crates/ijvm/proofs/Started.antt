@@ -16,7 +16,7 @@ use Rattle.instructions.proofs.EveryCase.{adds_up}
 use Rattle.instructions.proofs.Nested.{any_calls_nest}
 use Rattle.instructions.proofs.Checked.{all_pass}
 use Rattle.ijvm.specs.declared.numbers.Numbers.{Numbers}
-use Rattle.ijvm.specs.declared.refusal.StartRefusal.{StartRefusal}
+use Rattle.ijvm.specs.declared.start_refusal.StartRefusal.{StartRefusal}
 use Rattle.ijvm.specs.Kit.{Kit}
 use Rattle.ijvm.specs.Start.{Fits, memory_checks, filled_word, filled_words, start_words, start_of, fresh_of, started_of, after_start}
 use Rattle.ijvm.specs.Turns.{start_turn}

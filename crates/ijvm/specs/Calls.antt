@@ -13,8 +13,8 @@ use Rattle.instructions.specs.Table.{cycles_of}
 use Rattle.instructions.specs.Step.{step_from}
 use Rattle.checks.specs.Shown.{top_there}
 use Rattle.ijvm.specs.declared.answers.Ran.{Ran}
-use Rattle.ijvm.specs.declared.refusal.LookRefusal.{LookRefusal}
-use Rattle.ijvm.specs.declared.refusal.LookRefusal.TheVariants.{OutOfRange, NotLoaded}
+use Rattle.ijvm.specs.declared.look_refusal.LookRefusal.{LookRefusal}
+use Rattle.ijvm.specs.declared.look_refusal.LookRefusal.TheVariants.{OutOfRange, NotLoaded}
 use Rattle.ijvm.specs.Kit.{Kit, shows}
 
 -- Power starts a machine over a memory; it is not loaded.

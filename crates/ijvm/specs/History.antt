@@ -10,7 +10,7 @@ use Rattle.instructions.specs.Sound.{Sound}
 use Rattle.instructions.specs.Performed.{Performs, after, total}
 use Rattle.instructions.specs.Nest.{Nested}
 use Rattle.ijvm.specs.declared.numbers.Numbers.{Numbers}
-use Rattle.ijvm.specs.declared.refusal.StartRefusal.{StartRefusal}
+use Rattle.ijvm.specs.declared.start_refusal.StartRefusal.{StartRefusal}
 use Rattle.ijvm.specs.Kit.{Kit}
 use Rattle.ijvm.specs.Start.{start_of, fresh_of}
 use Rattle.ijvm.specs.Turns.{Turn}

@@ -2,10 +2,10 @@
 use Rattle.std.specs.Prelude.{ℕ, List, ◌++◌, Some, None, Option, codes, decimal}
 use Rattle.instructions.specs.declared.refusal.StepRefusal.{StepRefusal}
 use Rattle.instructions.specs.Refusals.{step_number}
-use Rattle.ijvm.specs.declared.refusal.LookRefusal.{LookRefusal}
-use Rattle.ijvm.specs.declared.refusal.LookRefusal.TheVariants.{OutOfRange, NotLoaded}
-use Rattle.ijvm.specs.declared.refusal.StartRefusal.{StartRefusal}
-use Rattle.ijvm.specs.declared.refusal.StartRefusal.TheVariants.{OtherSize, Marked}
+use Rattle.ijvm.specs.declared.look_refusal.LookRefusal.{LookRefusal}
+use Rattle.ijvm.specs.declared.look_refusal.LookRefusal.TheVariants.{OutOfRange, NotLoaded}
+use Rattle.ijvm.specs.declared.start_refusal.StartRefusal.{StartRefusal}
+use Rattle.ijvm.specs.declared.start_refusal.StartRefusal.TheVariants.{OtherSize, Marked}
 
 -- Look: 39 where no program is loaded; 4 for an address that is not below the size.
 abbrev pub look_number : LookRefusal → ℕ

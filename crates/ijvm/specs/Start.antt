@@ -6,8 +6,8 @@ use Rattle.datapath.specs.Cycle.{Micro}
 use Rattle.instructions.specs.Machine.{Ijvm, byte_of}
 use Rattle.instructions.specs.Checks.{Check, ◌else◌}
 use Rattle.ijvm.specs.declared.numbers.Numbers.{Numbers}
-use Rattle.ijvm.specs.declared.refusal.StartRefusal.{StartRefusal}
-use Rattle.ijvm.specs.declared.refusal.StartRefusal.TheVariants.{OtherSize, Marked}
+use Rattle.ijvm.specs.declared.start_refusal.StartRefusal.{StartRefusal}
+use Rattle.ijvm.specs.declared.start_refusal.StartRefusal.TheVariants.{OtherSize, Marked}
 use Rattle.ijvm.specs.Kit.{Kit}
 
 -- Numbers by which a program can be started: a memory can have the size, the mark lies inside it, the pool lies below the mark, main's first instruction lies in code, and main's SP lies inside the memory.

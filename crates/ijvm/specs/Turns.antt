@@ -6,9 +6,9 @@ use Rattle.instructions.specs.Machine.{Ijvm}
 use Rattle.instructions.specs.Table.{cycles_of, effect_of}
 use Rattle.instructions.specs.Step.{step_of}
 use Rattle.ijvm.specs.declared.answers.Ran.{Ran}
-use Rattle.ijvm.specs.declared.refusal.LookRefusal.{LookRefusal}
+use Rattle.ijvm.specs.declared.look_refusal.LookRefusal.{LookRefusal}
 use Rattle.ijvm.specs.declared.numbers.Numbers.{Numbers}
-use Rattle.ijvm.specs.declared.refusal.StartRefusal.{StartRefusal}
+use Rattle.ijvm.specs.declared.start_refusal.StartRefusal.{StartRefusal}
 use Rattle.instructions.specs.Checks.{first_refusal}
 use Rattle.ijvm.specs.Start.{memory_checks}
 use Rattle.ijvm.specs.Calls.{look_at}

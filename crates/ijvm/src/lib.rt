@@ -5,14 +5,16 @@ mod answers;
 mod calls;
 mod layout;
 mod load;
+mod look_refusal;
 mod machine_type;
 mod numbers;
 mod program;
-mod refusal;
+mod start_refusal;
 
 pub use answers::Ran;
 pub use layout::Layout;
+pub use look_refusal::LookRefusal;
 pub use machine_type::Machine;
 pub use numbers::Numbers;
 pub use program::Program;
-pub use refusal::{LookRefusal, StartRefusal};
+pub use start_refusal::StartRefusal;

@@ -3,8 +3,8 @@ use Rattle.std.proofs.Common.{◌≡◌, ℕ, ◌==◌, Bool, true, false, List,
 use Rattle.memory.specs.Meaning.{Meaning, size_of}
 use Rattle.instructions.specs.Checks.{checked, first_refusal}
 use Rattle.ijvm.specs.declared.numbers.Numbers.{Numbers}
-use Rattle.ijvm.specs.declared.refusal.StartRefusal.{StartRefusal}
-use Rattle.ijvm.specs.declared.refusal.StartRefusal.TheVariants.{OtherSize as StartOtherSize, Marked as StartMarked}
+use Rattle.ijvm.specs.declared.start_refusal.StartRefusal.{StartRefusal}
+use Rattle.ijvm.specs.declared.start_refusal.StartRefusal.TheVariants.{OtherSize as StartOtherSize, Marked as StartMarked}
 use Rattle.ijvm.specs.Kit.{Kit}
 use Rattle.ijvm.specs.Start.{memory_checks, start_of}
 use Rattle.ijvm.specs.History.{beginning_of, Came, Begins, Continues}

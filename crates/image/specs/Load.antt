@@ -3,7 +3,7 @@ use Rattle.std.specs.Prelude.{ℕ, Bool, ◌+◌, ◌*◌, ◌%◌, ◌&&◌, Li
 use Rattle.memory.specs.Meaning.{Meaning, size_of}
 use Rattle.instructions.specs.Checks.{Check, ◌else◌, first_refusal}
 use Rattle.ijvm.specs.declared.numbers.Numbers.{Numbers}
-use Rattle.ijvm.specs.declared.refusal.StartRefusal.{StartRefusal}
+use Rattle.ijvm.specs.declared.start_refusal.StartRefusal.{StartRefusal}
 use Rattle.image.specs.declared.refusal.LoadRefusal.{LoadRefusal}
 use Rattle.image.specs.declared.refusal.LoadRefusal.TheVariants.{WrongLength, FailedCheck, WrongCount, WrongNumber, NotZero, OtherSize, Marked}
 use Rattle.image.specs.declared.refusal.Place.TheVariants.{Size, Mark, Pool, Main}

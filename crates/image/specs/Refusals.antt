@@ -1,7 +1,7 @@
 -- The refusals of load, by their numbers in the manual, with what each carries.
 use Rattle.std.specs.Prelude.{ℕ, List, ◌++◌, Some, None, Option, codes, decimal}
-use Rattle.ijvm.specs.declared.refusal.StartRefusal.{StartRefusal}
-use Rattle.ijvm.specs.declared.refusal.StartRefusal.TheVariants.{OtherSize as StartOtherSize, Marked as StartMarked}
+use Rattle.ijvm.specs.declared.start_refusal.StartRefusal.{StartRefusal}
+use Rattle.ijvm.specs.declared.start_refusal.StartRefusal.TheVariants.{OtherSize as StartOtherSize, Marked as StartMarked}
 use Rattle.image.specs.declared.refusal.Place.{Place}
 use Rattle.image.specs.declared.refusal.Place.TheVariants.{Size, Mark, Pool, Main}
 use Rattle.image.specs.declared.refusal.LoadRefusal.{LoadRefusal}
