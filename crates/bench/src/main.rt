@@ -1,4 +1,4 @@
-// The benchmark: runs the image on standard input over a memory of words and over one of bytes, and prints cycles and seconds. A run that is too short to be timed is told without seconds.
+// The benchmark: runs the image on standard input over a memory of words and over one of bytes, and prints cycles and the time. A run that is too short to be timed is told without a time.
 #![tactic(auto)]
 
 use control::Registers;
@@ -10,7 +10,9 @@ use std::io::Read;
 use std::rt::Clock;
 use std::time::Instant;
 
-// As many steps as are made, and as many cycles as can be timed.
+// As many bytes as are read, as many steps as are made, and as many cycles as can be timed.
+const MOST_BYTES: u64 = 32_768;
+
 const MOST_STEPS: u64 = 10_000_000;
 
 const TIMED_CYCLES: u64 = 1_000_000;
@@ -40,7 +42,7 @@ fn timed<C: Cell, R: Print + Clock>(
 fn main(rt: HostRuntime) -> anyhow::Result<()> {
     let heap = rt.alloc();
     let mut image = Vec::new(heap);
-    rt.stdin().take(32_768).read_to_end(&mut image)?;
+    rt.stdin().take(MOST_BYTES).read_to_end(&mut image)?;
     let size = memory_size(&image);
     let mut words = vec![in heap; 0u32; size]?;
     timed(&rt, "memory of words", words.as_mut_slice(), &image)?;

@@ -3,7 +3,7 @@
 
 mod frame;
 mod reads;
-mod rows;
 mod shown;
+mod step_checks;
 
 pub use shown::Shown;

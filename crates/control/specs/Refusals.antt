@@ -1,5 +1,5 @@
 -- The refusals of control words and of the control store, by their numbers in the manual.
-use Rattle.std.specs.Prelude.{ℕ, List, ◌++◌, codes, decimal}
+use Rattle.std.specs.Prelude.{ℕ, List, ◌++◌, Some, None, Option, codes, decimal}
 use Rattle.control.specs.declared.refusal.ControlRefusal.{ControlRefusal}
 use Rattle.control.specs.declared.refusal.ControlRefusal.TheVariants.{TooWide, TwoShifts, TwoAccesses}
 use Rattle.control.specs.declared.refusal.FillRefusal.{FillRefusal}
@@ -15,6 +15,11 @@ control_number TwoAccesses = 9
 abbrev pub fill_number : FillRefusal → ℕ
 fill_number WrongCount = 10
 fill_number (WrongWord address cause) = control_number cause
+
+-- What a refusal of fill carries: the address of the number that decode refuses.
+abbrev pub fill_detail : FillRefusal → Option ℕ
+fill_detail WrongCount = None
+fill_detail (WrongWord address cause) = Some address
 
 -- The refusals as text.
 abbrev pub control_reason : ControlRefusal → List ℕ

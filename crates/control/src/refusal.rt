@@ -1,6 +1,6 @@
 // Why control words are refused, and the number of each refusal.
 ghost use Rattle.std.specs.Prelude.{◌≡◌, Some};
-ghost use Rattle.control.specs.Refusals.{control_number, control_reason, control_text, fill_number, fill_text};
+ghost use Rattle.control.specs.Refusals.{control_number, control_reason, control_text, fill_detail, fill_number, fill_text};
 
 use std::error::Error;
 use std::fmt;
@@ -53,6 +53,16 @@ impl FillRefusal {
         match self {
             FillRefusal::WrongCount => 10,
             FillRefusal::WrongWord { address: _, cause } => cause.number(),
+        }
+    }
+
+    // What the refusal carries: the address of the number that decode refuses.
+    pub fn detail(self) -> Option<u16>
+        ensures { result ≡ fill_detail self }
+    {
+        match self {
+            FillRefusal::WrongCount => None,
+            FillRefusal::WrongWord { address, cause: _ } => Some(address),
         }
     }
 }

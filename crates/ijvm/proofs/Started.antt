@@ -20,7 +20,7 @@ use Rattle.ijvm.specs.declared.start_refusal.StartRefusal.{StartRefusal}
 use Rattle.ijvm.specs.Kit.{Kit}
 use Rattle.ijvm.specs.Start.{Fits, memory_checks, filled_word, filled_words, start_words, start_of, fresh_of, started_of, after_start}
 use Rattle.ijvm.specs.Turns.{start_turn}
-use Rattle.ijvm.specs.History.{beginning_of, Begun, Came, Begins, Continues}
+use Rattle.ijvm.specs.History.{beginning_of, Begun, Came, Begins, RefusedLater, Continues}
 use Rattle.ijvm.proofs.Continued.{same}
 
 -- a list whose words are those of a function of the address, up to its end
@@ -163,3 +163,10 @@ load_continues n word k next r answer after b cases s h =
         let pc = (sound_after cases b.start s h.begun.sound h.performs).pc_in in
         let mark = h.stands.same_mark in
         absurd (never n k.micro.memory (omega arith) (sym q))
+
+pub refused_later : (n : Numbers) (k : Kit) (r : Result (Unit {0}) StartRefusal) → r ≡ first_refusal (memory_checks n k.micro.memory) → RefusedLater n r k
+unfolding RefusedLater
+refused_later n k r answer b cases s h ok =
+    let pc = (sound_after cases b.start s h.begun.sound h.performs).pc_in in
+    let mark = h.stands.same_mark in
+    never n k.micro.memory (omega arith) (sym answer ∙ ok)

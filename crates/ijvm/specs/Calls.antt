@@ -35,11 +35,11 @@ pub record Reply (A : Type 0) : Type 0 where
   pub answer : A
   pub after : Kit
 
--- A step is refused, and then nothing changes; or it is so many cycles from the published store as the table has for the case, and answers how many of them were done.
+-- A performed step: it answers how many cycles were done.
 abbrev pub performed_of : Kit → Gone → Reply (Result ℕ StepRefusal)
 performed_of k gone = record { answer = Ok gone.done; after = record { micro = gone.after; pool = k.pool } }
 
--- By the case that is performed, or by the refusal.
+-- A step is refused, and then nothing changes; or it is so many cycles from the published store as the table has for the case.
 abbrev pub step_by : Kit → Result Case StepRefusal → Reply (Result ℕ StepRefusal)
 step_by k (Ok c) = performed_of k (go_of published (cycles_of c) k.micro)
 step_by k (Err refusal) = record { answer = Err refusal; after = k }
@@ -48,11 +48,11 @@ step_by k (Err refusal) = record { answer = Err refusal; after = k }
 unfoldable pub stepped_of : Kit → Reply (Result ℕ StepRefusal)
 stepped_of k = step_by k (step_from (shows k))
 
--- A run: steps until n are done or one is refused.
+-- A run that ends without a step.
 abbrev pub stop : Kit → Option StepRefusal → Reply Ran
 stop k stopped = record { answer = record { steps = 0; stopped = stopped }; after = k }
 
--- So many steps before.
+-- A run with so many steps before it.
 abbrev pub later : ℕ → Reply Ran → Reply Ran
 later i r = record { answer = record { steps = i + r.answer.steps; stopped = r.answer.stopped }; after = r.after }
 
@@ -61,7 +61,7 @@ abbrev pub run_on : (Kit → Reply Ran) → Kit → Result ℕ StepRefusal → R
 run_on rest next (Ok cycles) = later 1 (rest next)
 run_on rest next (Err refusal) = stop next (Some refusal)
 
--- Up to n steps.
+-- A run: steps until n are done or one is refused.
 unfoldable pub ran_of : ℕ → Kit → Reply Ran
 ran_of zero k = stop k None
 ran_of (suc n) k = run_on (ran_of n) (stepped_of k).after (stepped_of k).answer
@@ -76,6 +76,6 @@ look_of None a = Err NotLoaded
 look_of (Some s) a = look_at s a
 
 -- The top of the operand stack: none where no program is loaded, or where the depth is 0.
-abbrev pub top_of : Option Ijvm → Option ℕ
-top_of None = None
-top_of (Some s) = top_there s
+abbrev pub top_shown : Option Ijvm → Option ℕ
+top_shown None = None
+top_shown (Some s) = top_there s

@@ -1,5 +1,5 @@
 -- What a machine has come to since its program was loaded.
-use Rattle.std.specs.Prelude.{◌≡◌, ℕ, ◌%◌, ◌^◌, List, [], ◌++◌, Some, None, Ok, Result}
+use Rattle.std.specs.Prelude.{◌≡◌, ◌≢◌, ℕ, ◌%◌, ◌^◌, List, [], ◌++◌, Some, None, Ok, Result}
 use Rattle.datapath.specs.Cycle.{Micro}
 use Rattle.datapath.specs.Go.{go_of}
 use Rattle.microprogram.specs.Published.{published}
@@ -49,6 +49,10 @@ pub record Came (b : Beginning) (cases : List Case) (s : Ijvm) (k : Kit) : Type 
 -- After an accepted load a machine has come to its program's start, with nothing performed.
 unfoldable pub Begins : Numbers → (ℕ → ℕ) → Result (Unit {0}) StartRefusal → (after : Kit) → Type 0
 Begins n word answer after = answer ≡ Ok tt → Came (beginning_of n word) [] (start_of n word) after
+
+-- A later load, of whatever program, is refused, with 26 at the latest, as the mark is above 0: where the machine had come to something before it, it does not answer Ok.
+unfoldable pub RefusedLater : {P R : Type 0} → (program : P) → Result (Unit {0}) R → (before : Kit) → Type 0
+RefusedLater program answer before = (b : Beginning) (cases : List Case) (s : Ijvm) → Came b cases s before → answer ≢ Ok tt
 
 -- A call goes on from there: it answers what the instruction machine answers in its turn, and the machine comes on by the instructions that this performs.
 pub record GoesOn {A : Type 0} (turn : Turn A) (b : Beginning) (cases : List Case) (answer : A) (after : Kit) : Type 0 where

@@ -33,7 +33,7 @@ look_text refusal = codes "refused " ++ (decimal (look_number refusal) ++ (codes
 
 -- The refusals of a start, likewise.
 abbrev pub start_reason : StartRefusal → List ℕ
-start_reason OtherSize = codes "the memory has another size than the image is for"
+start_reason OtherSize = codes "the memory has another size than the program is for"
 start_reason Marked = codes "the memory's mark is not 0"
 
 -- With the number before it.

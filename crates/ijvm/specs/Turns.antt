@@ -32,7 +32,7 @@ step_turn_by s (Err refusal) = still (Err refusal) s
 abbrev pub step_turn : Ijvm → Turn (Result ℕ StepRefusal)
 step_turn s = step_turn_by s (step_of s)
 
--- A run is such steps, until n are done or one is refused.
+-- A step that was performed, and the rest of the run.
 abbrev pub after_step : Case → Turn Ran → Turn Ran
 after_step c t = record { answer = record { steps = 1 + t.answer.steps; stopped = t.answer.stopped }; performed = c ∷ t.performed; state = t.state }
 
@@ -41,7 +41,7 @@ abbrev pub run_turn_by : (Ijvm → Turn Ran) → Ijvm → Result Case StepRefusa
 run_turn_by rest s (Ok c) = after_step c (rest (effect_of c s))
 run_turn_by rest s (Err refusal) = still (record { steps = 0; stopped = Some refusal }) s
 
--- Up to n steps.
+-- A run is such steps, until n are done or one is refused.
 unfoldable pub run_turn : ℕ → Ijvm → Turn Ran
 run_turn zero s = still (record { steps = 0; stopped = None }) s
 run_turn (suc n) s = run_turn_by (run_turn n) s (step_of s)
@@ -50,6 +50,6 @@ run_turn (suc n) s = run_turn_by (run_turn n) s (step_of s)
 abbrev pub look_turn : ℕ → Ijvm → Turn (Result ℕ LookRefusal)
 look_turn a s = still (look_at s a) s
 
--- A later load is refused, by what is asked of the memory: with 26 at the latest, as the mark is above 0.
+-- A later load is refused, by what is asked of the memory: with 26 at the latest, as the mark is above 0. So it never answers Ok.
 abbrev pub start_turn : Numbers → Ijvm → Turn (Result (Unit {0}) StartRefusal)
 start_turn n s = still (first_refusal (memory_checks n (record { words = s.words; mark = s.mark }))) s

@@ -1,13 +1,13 @@
 // The calls of a machine, but for load.
-ghost use Rattle.std.specs.Prelude.{◌≡◌};
+ghost use Rattle.std.specs.Prelude.{◌≡◌, map};
 ghost use Rattle.control.specs.Numbers.{numbers_in};
 ghost use Rattle.datapath.specs.Cycle.{cycle_of, answer_of};
 ghost use Rattle.datapath.specs.Go.{go_of};
 ghost use Rattle.microprogram.specs.Published.{published};
 ghost use Rattle.instructions.specs.Step.{step_from};
-ghost use Rattle.instructions.specs.Table.{cycles_of};
+ghost use Rattle.instructions.specs.Table.{cases, cycles_of};
 ghost use Rattle.ijvm.specs.Kit.{kit_of, shows, shown_by};
-ghost use Rattle.ijvm.specs.Calls.{powered_of, cycled_of, gone_of, performed_of, stepped_of, ran_of, look_of, top_of};
+ghost use Rattle.ijvm.specs.Calls.{powered_of, cycled_of, gone_of, performed_of, stepped_of, ran_of, look_of, top_shown};
 ghost use Rattle.ijvm.specs.Turns.{step_turn, run_turn, look_turn};
 ghost use Rattle.ijvm.specs.History.{Continues};
 
@@ -15,7 +15,7 @@ use crate::{LookRefusal, Machine, Ran};
 use checks::Shown;
 use control::{ControlStore, Registers};
 use datapath::{Datapath, Fault, State};
-use instructions::{Case, StepRefusal};
+use instructions::{CYCLES, Case, StepRefusal};
 use memory::Memory;
 use microprogram::published_store;
 
@@ -117,11 +117,12 @@ impl<M: Memory> Machine<M> {
         Ok(self.perform(case))
     }
 
-    // Performs one instruction; how many cycles that were. Refused, it changes nothing.
+    // Performs one instruction; how many cycles that were: by the entries of the constant table. Refused, it changes nothing.
     #[tactic(auto, using(crate::proofs::Continued::step_continues))]
     pub fn step(&mut self) -> Result<u64, StepRefusal>
         ensures answer { result ≡ (stepped_of (kit_of M.Memory.meaning self.old)).answer }
         ensures after { kit_of M.Memory.meaning self.new ≡ (stepped_of (kit_of M.Memory.meaning self.old)).after }
+        ensures table { CYCLES ≡ map cycles_of cases }
         ensures continues { Continues step_turn result (kit_of M.Memory.meaning self.old) (kit_of M.Memory.meaning self.new) }
         ensures loan { M.Memory.loan self.new.datapath.memory ≡ M.Memory.loan self.old.datapath.memory }
     {
@@ -181,7 +182,7 @@ impl<M: Memory> Machine<M> {
 
     // The top of the operand stack; none where no program is loaded, or where the stack is empty.
     pub fn top(&self) -> Option<u32>
-        ensures { result ≡ top_of (shows (kit_of M.Memory.meaning self.now)) }
+        ensures { result ≡ top_shown (shows (kit_of M.Memory.meaning self.now)) }
     {
         self.shown()?.top()
     }

@@ -1,4 +1,4 @@
-// Numbers that a memory can hold a program by.
+// The numbers of a program that fit together.
 ghost use Rattle.ijvm.specs.Start.{Fits};
 
 use crate::Numbers;

@@ -6,7 +6,7 @@ ghost use Rattle.instructions.specs.Checks.{first_refusal};
 ghost use Rattle.ijvm.specs.Kit.{kit_of};
 ghost use Rattle.ijvm.specs.Start.{Fits, memory_checks, filled_word, filled_words, start_words, fresh_of, after_start};
 ghost use Rattle.ijvm.specs.Turns.{start_turn};
-ghost use Rattle.ijvm.specs.History.{Begins, Continues};
+ghost use Rattle.ijvm.specs.History.{Begins, Continues, RefusedLater};
 
 use crate::{Layout, Machine, Numbers, Program, StartRefusal};
 use control::Registers;
@@ -14,7 +14,7 @@ use datapath::State;
 use instructions::check;
 use memory::Memory;
 
-// The line at which an instruction begins.
+// The address of the line Main1, at which each instruction begins.
 const MAIN1: u16 = 0x100;
 
 // What is asked of the memory that a program is loaded into.
@@ -110,11 +110,12 @@ impl<M: Memory> Machine<M> {
     }
 
     // Fills the memory with a program and starts its main. It refuses 25 another size of the memory, then 26 a mark that is not 0; refused, it changes nothing.
-    #[tactic(auto, using(crate::proofs::Started::load_begins, crate::proofs::Started::load_continues))]
+    #[tactic(auto, using(crate::proofs::Started::load_begins, crate::proofs::Started::load_continues, crate::proofs::Started::refused_later))]
     pub fn load<P: Program>(&mut self, program: &P) -> Result<(), StartRefusal>
         ensures answer { result ≡ first_refusal (memory_checks (P.Program.numbers program.now) (kit_of M.Memory.meaning self.old).micro.memory) }
         ensures after { kit_of M.Memory.meaning self.new ≡ after_start (P.Program.numbers program.now) (P.Program.words program.now) (kit_of M.Memory.meaning self.old) result }
         ensures begins { Begins (P.Program.numbers program.now) (P.Program.words program.now) result (kit_of M.Memory.meaning self.new) }
+        ensures later { RefusedLater (P.Program.numbers program.now) result (kit_of M.Memory.meaning self.old) }
         ensures continues { Continues (start_turn (P.Program.numbers program.now)) result (kit_of M.Memory.meaning self.old) (kit_of M.Memory.meaning self.new) }
         ensures loan { M.Memory.loan self.new.datapath.memory ≡ M.Memory.loan self.old.datapath.memory }
     {

@@ -27,7 +27,7 @@ impl StartRefusal {
         ensures { result.now ≡ start_reason self }
     {
         match self {
-            StartRefusal::OtherSize => "the memory has another size than the image is for",
+            StartRefusal::OtherSize => "the memory has another size than the program is for",
             StartRefusal::Marked => "the memory's mark is not 0",
         }
     }

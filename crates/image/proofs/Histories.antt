@@ -10,7 +10,7 @@ use Rattle.instructions.specs.Checks.{Check, ◌else◌}
 use Rattle.instructions.proofs.Checked.{all_pass}
 use Rattle.instructions.proofs.Lists.{sound_after}
 use Rattle.ijvm.specs.Kit.{Kit}
-use Rattle.ijvm.specs.History.{Beginning, Came, GoesOn}
+use Rattle.ijvm.specs.History.{Beginning, Came, GoesOn, RefusedLater}
 use Rattle.ijvm.proofs.Continued.{same, step_goes_on, run_goes_on, look_goes_on}
 use Rattle.ijvm.proofs.Started.{settled-length}
 use Rattle.image.proofs.Appended.{both_pass}
@@ -37,6 +37,13 @@ never bytes m one ok =
     let asked-of : List (Check LoadRefusal) = (size_of m == (numbers_of bytes).size) else OtherSize ∷ ((m.mark == 0) else Marked ∷ []) in
     let zero : m.mark ≡ 0 = eqb-true _ _ (all_pass asked-of (both_pass (image_checks bytes) asked-of ok).1).1.0 in
     omega arith
+
+pub refused_later : (bytes : List ℕ) (k : Kit) (r : Result (Unit {0}) LoadRefusal) → r ≡ load_of bytes k.micro.memory → RefusedLater bytes r k
+unfolding RefusedLater
+refused_later bytes k r answer b cases s h ok =
+    let pc = (sound_after cases b.start s h.begun.sound h.performs).pc_in in
+    let mark = h.stands.same_mark in
+    never bytes k.micro.memory (omega arith) (sym answer ∙ ok)
 
 -- Each call goes on with what a machine had come to.
 module _ (b : Beginning) (cases : List Case) (s : Ijvm) (k : Kit) (h : Came b cases s k) where

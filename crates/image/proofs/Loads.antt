@@ -10,7 +10,7 @@ use Rattle.ijvm.specs.Start.{memory_checks, start_of}
 use Rattle.ijvm.specs.History.{beginning_of, Came, Begins, Continues}
 use Rattle.image.specs.declared.refusal.LoadRefusal.{LoadRefusal}
 use Rattle.image.specs.declared.refusal.LoadRefusal.TheVariants.{OtherSize, Marked}
-use Rattle.image.specs.Format.{numbers_of, protected_of}
+use Rattle.image.specs.Format.{numbers_of, protected_word_of}
 use Rattle.image.specs.Refusals.{of_start}
 use Rattle.image.specs.Load.{accepted, image_checks, by_memory, load_of}
 use Rattle.image.specs.Calls.{after_load, load_turn, past_of}
@@ -51,11 +51,11 @@ memory_refused bytes m n start e r asked same answer is refusal =
 
 -- what the machine's load begins, as the image's
 pub begun_at : (bytes view : List ℕ) (n : Numbers) (r : Result (Unit {0}) StartRefusal) (k : Kit) → view ≡ bytes → n ≡ numbers_of bytes → r ≡ Ok tt
-    → Begins n (protected_of view) r k → Came (beginning_in bytes) [] (start_in bytes) k
+    → Begins n (protected_word_of view) r k → Came (beginning_in bytes) [] (start_in bytes) k
 unfolding Begins
 begun_at bytes view n r k same numbers ok begins =
-    subst (λ (b : List ℕ). Came (beginning_of (numbers_of bytes) (protected_of b)) [] (start_of (numbers_of bytes) (protected_of b)) k) same
-    (subst (λ (m : Numbers). Came (beginning_of m (protected_of view)) [] (start_of m (protected_of view)) k) numbers (begins ok))
+    subst (λ (b : List ℕ). Came (beginning_of (numbers_of bytes) (protected_word_of b)) [] (start_of (numbers_of bytes) (protected_word_of b)) k) same
+    (subst (λ (m : Numbers). Came (beginning_of m (protected_word_of view)) [] (start_of m (protected_word_of view)) k) numbers (begins ok))
 
 -- an accepted load begins a history
 pub load_begins : (bytes : List ℕ) (m : Meaning) (next : Kit) (r : Result (Unit {0}) LoadRefusal) → r ≡ load_of bytes m

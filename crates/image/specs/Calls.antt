@@ -11,12 +11,12 @@ use Rattle.image.specs.declared.calls.Call.TheVariants.{Load, Step, Run, Look}
 use Rattle.image.specs.declared.calls.Answer.{Answer}
 use Rattle.image.specs.declared.calls.Answer.TheVariants.{Loaded, Stepped, Ran, Looked}
 use Rattle.image.specs.declared.refusal.LoadRefusal.{LoadRefusal}
-use Rattle.image.specs.Format.{numbers_of, protected_of}
+use Rattle.image.specs.Format.{numbers_of, protected_word_of}
 use Rattle.image.specs.Load.{load_of}
 
 -- A load leaves the machine with the image's program started; refused, it changes nothing.
 abbrev pub after_load : List ℕ → Kit → Result (Unit {0}) LoadRefusal → Kit
-after_load bytes k (Ok _) = started_of (numbers_of bytes) (protected_of bytes)
+after_load bytes k (Ok _) = started_of (numbers_of bytes) (protected_word_of bytes)
 after_load bytes k (Err refusal) = k
 
 -- What a load answers and leaves.
@@ -48,7 +48,7 @@ unfoldable pub story_of : List Call → Kit → Story
 story_of [] k = record { answers = []; after = k }
 story_of (call ∷ calls) k = and_then (reply_of call k) (story_of calls)
 
--- The instruction machine, fed with a call. A later load is refused by load's list, with 26 at the latest, as the mark is above 0.
+-- The instruction machine, fed with a call. A later load is refused by load's list, with 26 at the latest, as the mark is above 0. So it never answers Ok.
 abbrev pub load_turn : List ℕ → Ijvm → Turn (Result (Unit {0}) LoadRefusal)
 load_turn bytes s = still (load_of bytes (record { words = s.words; mark = s.mark })) s
 

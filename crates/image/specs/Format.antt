@@ -26,12 +26,12 @@ abbrev pub failed_block : List ℕ → Option ℕ
 failed_block bytes = position (λ k. not (adds_up bytes k)) (range_with_len 0 (blocks_of bytes))
 
 -- A protected word: the later blocks carry them in order, 127 each, before the block's check.
-abbrev pub protected_of : List ℕ → ℕ → ℕ
-protected_of bytes a = word_of bytes (128 * (1 + a / 127) + a % 127)
+abbrev pub protected_word_of : List ℕ → ℕ → ℕ
+protected_word_of bytes a = word_of bytes (128 * (1 + a / 127) + a % 127)
 
 -- The byte of the protected words at a byte address.
 abbrev pub code_byte : List ℕ → ℕ → ℕ
-code_byte bytes a = byte_in (protected_of bytes (a / 4)) a
+code_byte bytes a = byte_in (protected_word_of bytes (a / 4)) a
 
 -- The number in two bytes, the first of them the higher.
 abbrev pub code_short : List ℕ → ℕ → ℕ
@@ -49,8 +49,8 @@ numbers_of bytes = record {
 }
 
 -- Main's params.
-abbrev pub params_of : List ℕ → ℕ
-params_of bytes = code_short bytes (word_of bytes 5)
+abbrev pub main_params_of : List ℕ → ℕ
+main_params_of bytes = code_short bytes (word_of bytes 5)
 
 -- As many blocks as carry so many protected words: block 0, and one for each 127 words, rounded up.
 abbrev pub blocks_for : ℕ → ℕ

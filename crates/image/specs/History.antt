@@ -10,17 +10,17 @@ use Rattle.image.specs.declared.calls.Call.TheVariants.{Load, Step, Run, Look}
 use Rattle.image.specs.declared.calls.Answer.{Answer}
 use Rattle.image.specs.declared.calls.Answer.TheVariants.{Loaded}
 use Rattle.image.specs.declared.refusal.LoadRefusal.{LoadRefusal}
-use Rattle.image.specs.Format.{numbers_of, protected_of}
+use Rattle.image.specs.Format.{numbers_of, protected_word_of}
 use Rattle.image.specs.Load.{image_checks}
 use Rattle.image.specs.Calls.{past_of}
 
 -- The beginning that an accepted load of an image makes.
 abbrev pub beginning_in : List ℕ → Beginning
-beginning_in image = beginning_of (numbers_of image) (protected_of image)
+beginning_in image = beginning_of (numbers_of image) (protected_word_of image)
 
 -- The state in which the instruction machine is started.
 abbrev pub start_in : List ℕ → Ijvm
-start_in image = start_of (numbers_of image) (protected_of image)
+start_in image = start_of (numbers_of image) (protected_word_of image)
 
 -- A machine has lived a history: this image was loaded, and since then these calls were made and answered so.
 -- Of the image load refuses nothing. The instruction machine, started as the image's load starts it and fed with the same calls, gives exactly these answers; and by the instructions that it performs the machine has come to its state.

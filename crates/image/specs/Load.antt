@@ -1,4 +1,4 @@
--- What load refuses, and what it leaves.
+-- What load refuses, in order. What an accepted one leaves is after_load, in Calls.
 use Rattle.std.specs.Prelude.{ℕ, Bool, ◌+◌, ◌*◌, ◌%◌, ◌&&◌, List, [], ◌∷◌, ◌++◌, length, is_none, unwrap_or, Ok, Err, Result, ◌==◌, nat_lt, nat_le}
 use Rattle.memory.specs.Meaning.{Meaning, size_of}
 use Rattle.instructions.specs.Checks.{Check, ◌else◌, first_refusal}
@@ -8,7 +8,7 @@ use Rattle.image.specs.declared.refusal.LoadRefusal.{LoadRefusal}
 use Rattle.image.specs.declared.refusal.LoadRefusal.TheVariants.{WrongLength, FailedCheck, WrongCount, WrongNumber, NotZero, OtherSize, Marked}
 use Rattle.image.specs.declared.refusal.Place.TheVariants.{Size, Mark, Pool, Main}
 use Rattle.image.specs.Refusals.{of_start}
-use Rattle.image.specs.Format.{word_of, blocks_of, failed_block, numbers_of, params_of, blocks_for, all_clean}
+use Rattle.image.specs.Format.{word_of, blocks_of, failed_block, numbers_of, main_params_of, blocks_for, all_clean}
 
 -- The numbers: the size is within make's limits;
 abbrev pub size_fits : Numbers → Bool
@@ -45,11 +45,11 @@ image_checks bytes =
     (length_fits bytes) else WrongLength
     ∷ ((is_none (failed_block bytes)) else FailedCheck (unwrap_or (failed_block bytes) 0)
     ∷ ((word_of bytes 0 == blocks_of bytes) else WrongCount
-    ∷ (number_checks (blocks_of bytes) (params_of bytes) (numbers_of bytes)
+    ∷ (number_checks (blocks_of bytes) (main_params_of bytes) (numbers_of bytes)
     ++ ((all_clean (numbers_of bytes).mark bytes) else NotZero
     ∷ []))))
 
--- Whether a view of the image was given, and else why not.
+-- What a result of any value says: that it was accepted, or the refusal.
 abbrev pub accepted : {A R : Type 0} → Result A R → Result (Unit {0}) R
 accepted (Ok view) = Ok tt
 accepted (Err refusal) = Err refusal

@@ -1,6 +1,6 @@
 // What is read of an image's bytes.
 ghost use Rattle.std.specs.Prelude.{◌≡◌, ◌+◌, ◌^◌, ◌<◌, slice_index};
-ghost use Rattle.image.specs.Format.{code_byte, code_short, protected_of, word_of};
+ghost use Rattle.image.specs.Format.{code_byte, code_short, protected_word_of, word_of};
 
 // The byte at an index; 0 where there is none.
 pub(crate) fn byte(bytes: &[u8], index: usize) -> u8
@@ -26,7 +26,7 @@ pub(crate) fn word(bytes: &[u8], index: usize) -> u32
 // A protected word by its address. The later blocks carry 127 each.
 pub(crate) fn protected_word(bytes: &[u8], address: usize) -> u32
     requires { address < 2 ^ 60 }
-    ensures { result ≡ protected_of bytes.now address }
+    ensures { result ≡ protected_word_of bytes.now address }
 {
     word(bytes, 128 * (1 + address / 127) + address % 127)
 }

@@ -1,7 +1,7 @@
 // The numbers of block 0, and what is asked of them.
 ghost use Rattle.std.specs.Prelude.{◌≡◌, IfOk};
 ghost use Rattle.instructions.specs.Checks.{first_refusal};
-ghost use Rattle.image.specs.Format.{blocks_for, blocks_of, numbers_of, params_of};
+ghost use Rattle.image.specs.Format.{blocks_for, blocks_of, numbers_of, main_params_of};
 ghost use Rattle.image.specs.Load.{accepted, main_fits, mark_fits, number_checks, pool_fits, size_fits};
 
 use crate::blocks::blocks;
@@ -34,7 +34,7 @@ fn numbers(bytes: &[u8]) -> Numbers
 
 // Main's params.
 fn params(bytes: &[u8]) -> u16
-    ensures { result ≡ params_of bytes.now }
+    ensures { result ≡ main_params_of bytes.now }
 {
     code_short(bytes, word(bytes, 5) as usize)
 }
@@ -73,7 +73,7 @@ fn main_fits(params: u16, numbers: Numbers) -> bool
 // The numbers, which fit; or the first place at which they do not.
 #[tactic(auto, unfolding(crate::specs::Load::number_checks))]
 pub(crate) fn layout(bytes: &[u8]) -> Result<Layout, LoadRefusal>
-    ensures answer { accepted result ≡ first_refusal (number_checks (blocks_of bytes.now) (params_of bytes.now) (numbers_of bytes.now)) }
+    ensures answer { accepted result ≡ first_refusal (number_checks (blocks_of bytes.now) (main_params_of bytes.now) (numbers_of bytes.now)) }
     ensures numbers { IfOk result (λ layout. layout.numbers ≡ numbers_of bytes.now) }
 {
     let numbers = numbers(bytes);

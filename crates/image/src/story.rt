@@ -10,7 +10,7 @@ use memory::Memory;
 
 // One call.
 #[tactic(auto, using(crate::proofs::Loads::begins_by_load, crate::proofs::Loads::no_load))]
-fn obey<M: Memory>(machine: &mut Machine<M>, call: Call<'_>) -> Answer
+fn perform_one<M: Memory>(machine: &mut Machine<M>, call: Call<'_>) -> Answer
     ensures answer { result ≡ (reply_of call.entry (kit_of M.Memory.meaning machine.old)).answer }
     ensures after { kit_of M.Memory.meaning machine.new ≡ (reply_of call.entry (kit_of M.Memory.meaning machine.old)).after }
     ensures begins { BeginsBy call.entry result (kit_of M.Memory.meaning machine.new) }
@@ -40,7 +40,7 @@ fn perform_first<M: Memory>(
     ensures loan { M.Memory.loan machine.new.datapath.memory ≡ M.Memory.loan machine.old.datapath.memory }
 {
     for i in 0..n {
-        answers[i] = obey(machine, calls[i]);
+        answers[i] = perform_one(machine, calls[i]);
     }
 }
 

@@ -1,7 +1,7 @@
 // The view of bytes as the image of a program.
 ghost use Rattle.std.specs.Prelude.{◌≡◌, IfOk};
 ghost use Rattle.instructions.specs.Checks.{first_refusal};
-ghost use Rattle.image.specs.Format.{numbers_of, protected_of};
+ghost use Rattle.image.specs.Format.{numbers_of, protected_word_of};
 ghost use Rattle.image.specs.Load.{accepted, image_checks};
 
 use crate::LoadRefusal;
@@ -43,7 +43,7 @@ impl<'a> Image<'a> {
 impl Program for Image<'_> {
     ghost numbers = { λ image. image.layout.numbers };
 
-    ghost words = { λ image. protected_of image.bytes.now };
+    ghost words = { λ image. protected_word_of image.bytes.now };
 
     fn layout(&self) -> Layout {
         self.layout

@@ -20,4 +20,4 @@ pub use theorems::{
     a_performed_case_leaves_a_sound_state, calls_nest, every_case_takes_its_entry,
     performed_instructions_add_up,
 };
-pub use timing::cycle_table;
+pub use timing::{CYCLES, cycle_table};

@@ -5,7 +5,7 @@ ghost use Rattle.instructions.specs.Table.{cases, cycles_of};
 use crate::Case;
 
 // The cycles of each case, Main1 counted, in the order of the table: a constant of its own, which the contracts cite.
-const CYCLES: [u64; 24] = [
+pub const CYCLES: [u64; 24] = [
     2, 4, 8, 6, 7, 4, 3, 7, 4, 4, 4, 4, 7, 8, 11, 8, 11, 10, 13, 7, 9, 23, 10, 11,
 ];
 

@@ -12,4 +12,4 @@ edges m size mark = record { protected = rw (size, mark) refl; first = rw (size,
 pub worked_cases : (r : Report) → r ≡ record { end = 38; steps = 28; cycles = 177; top = Some (pos 6) } → WorkedCases r
 worked_cases r e =
     rw e
-    (record { control_words = worked_examples; edges = edges; numbers = (refl, refl); prints = prints; word_15 = word_15 })
+    (record { control_words = worked_examples; edges = edges; lines = refl; numbers = (refl, refl); prints = prints; word_15 = word_15 })

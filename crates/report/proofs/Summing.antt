@@ -20,7 +20,7 @@ use Rattle.ijvm.specs.Turns.{Turn, run_turn}
 use Rattle.ijvm.specs.History.{Came, GoesOn}
 use Rattle.ijvm.proofs.Continued.{run_goes_on, shows_it}
 use Rattle.ijvm.proofs.Started.{came}
-use Rattle.image.specs.Format.{numbers_of, protected_of, block_sum}
+use Rattle.image.specs.Format.{numbers_of, protected_word_of, block_sum}
 use Rattle.image.specs.Load.{image_checks, number_checks, load_of}
 use Rattle.image.specs.Calls.{after_load, load_reply}
 use Rattle.image.specs.History.{beginning_in, start_in}
@@ -62,15 +62,15 @@ bytes_small : (i : ℕ) → slice_index summing_image i < 256
 unfolding all_bytes summing_image
 bytes_small i = each_byte summing_image refl i
 
-words_small : (a : ℕ) → protected_of summing_image a < 2 ^ 32
+words_small : (a : ℕ) → protected_word_of summing_image a < 2 ^ 32
 words_small a =
     let i : ℕ = 128 * (1 + a / 127) + a % 127 in
     omega (arith, bytes_small (4 * i + 0), bytes_small (4 * i + 1), bytes_small (4 * i + 2), bytes_small (4 * i + 3))
 
-filled_small : (a : ℕ) → a < (numbers_of summing_image).size → filled_word (numbers_of summing_image) (protected_of summing_image) a < 2 ^ 32
+filled_small : (a : ℕ) → a < (numbers_of summing_image).size → filled_word (numbers_of summing_image) (protected_word_of summing_image) a < 2 ^ 32
 filled_small a h = by (nat_lt a (numbers_of summing_image).mark)
   where
-    by : (b : Bool) → cond b (protected_of summing_image a) 0 < 2 ^ 32
+    by : (b : Bool) → cond b (protected_word_of summing_image a) 0 < 2 ^ 32
     by true = words_small a
     by false = omega arith
 
@@ -94,12 +94,12 @@ run_is : run_turn 1000000 (start 3 (replicate 16 0))
 run_is = stopped_run (method 3) (start 3 (replicate 16 0)) (finish 3 (replicate 16 0)) End 999971 (takes.performs (replicate 16 0)) (takes.ends (replicate 16 0))
 
 started : Kit
-started = started_of (numbers_of summing_image) (protected_of summing_image)
+started = started_of (numbers_of summing_image) (protected_word_of summing_image)
 
 -- So it is of a machine that is started with it.
 ran : GoesOn (run_turn 1000000 (start_in summing_image)) (beginning_in summing_image) [] (ran_of 1000000 started).answer (ran_of 1000000 started).after
 unfolding started
-ran = run_goes_on (beginning_in summing_image) 1000000 [] (start_in summing_image) started (came (numbers_of summing_image) (protected_of summing_image) fits filled_small)
+ran = run_goes_on (beginning_in summing_image) 1000000 [] (start_in summing_image) started (came (numbers_of summing_image) (protected_word_of summing_image) fits filled_small)
 
 turn_is : run_turn 1000000 (start_in summing_image) ≡ record { answer = record { steps = 28; stopped = Some End }; performed = method 3; state = finish 3 (replicate 16 0) }
 turn_is = ap (run_turn 1000000) starts ∙ run_is

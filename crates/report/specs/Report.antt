@@ -5,7 +5,7 @@ use Rattle.std.specs.Int.{cast_signed, w32}
 use Rattle.std.specs.Option.{option_map}
 use Rattle.memory.specs.Meaning.{Meaning}
 use Rattle.ijvm.specs.Kit.{Kit, shows}
-use Rattle.ijvm.specs.Calls.{Reply, powered_of, ran_of, top_of}
+use Rattle.ijvm.specs.Calls.{Reply, powered_of, ran_of, top_shown}
 use Rattle.ijvm.specs.Refusals.{stop_number}
 use Rattle.ijvm.specs.declared.answers.Ran.{Ran}
 use Rattle.image.specs.declared.refusal.LoadRefusal.{LoadRefusal}
@@ -29,14 +29,14 @@ report_of (Ok _) r = record {
   end = stop_number r.answer.stopped;
   steps = r.answer.steps;
   cycles = r.after.micro.state.counter;
-  top = option_map signed_of (top_of (shows r.after));
+  top = option_map signed_of (top_shown (shows r.after));
 }
 
 -- The report of a machine into which an image is loaded, and which then runs up to so many steps.
 abbrev pub report_by : List ℕ → ℕ → Kit → Report
 report_by bytes steps k = report_of (load_reply bytes k).answer (ran_of steps (load_reply bytes k).after)
 
--- The four lines: a name and a value each.
+-- The end of a line.
 abbrev pub newline : List ℕ
 newline = 10 ∷ []
 
@@ -45,7 +45,7 @@ abbrev pub top_text : Option ℤ → List ℕ
 top_text None = codes "-"
 top_text (Some top) = signed_decimal top
 
--- The lines, one below the other.
+-- The four lines: a name and a value each.
 abbrev pub report_text : Report → List ℕ
 report_text r =
     codes "end " ++ (decimal r.end ++ (newline ++ (codes "steps " ++ (decimal r.steps ++ (newline ++ (codes "cycles " ++ (decimal r.cycles ++ (newline ++ (codes "top " ++ top_text r.top)))))))))

@@ -1,5 +1,5 @@
 -- Worked cases, as one statement.
-use Rattle.std.specs.Prelude.{◌≡◌, ℕ, ◌-◌, ◌*◌, ◌/◌, ◌%◌, ◌^◌, List, [], ◌∷◌, ◌++◌, length, replicate, Ok, Err}
+use Rattle.std.specs.Prelude.{◌≡◌, ℕ, ◌-◌, ◌*◌, ◌/◌, ◌%◌, ◌^◌, List, [], ◌∷◌, ◌++◌, length, replicate, Ok, Err, codes}
 use Rattle.memory.specs.Meaning.{Meaning, size_of, write_of}
 use Rattle.memory.specs.Refusals.{access_number}
 use Rattle.memory.specs.declared.access_refusal.AccessRefusal.TheVariants.{OutOfRange, Protected}
@@ -8,7 +8,7 @@ use Rattle.ijvm.specs.Kit.{Kit, shows}
 use Rattle.ijvm.specs.Calls.{ran_of, look_of}
 use Rattle.image.specs.Calls.{load_reply}
 use Rattle.report.specs.declared.lines.Report.{Report}
-use Rattle.report.specs.Report.{report_by}
+use Rattle.report.specs.Report.{newline, report_text, report_by}
 
 -- The bytes of a word, the most significant first.
 abbrev pub word_bytes : ℕ → List ℕ
@@ -36,10 +36,11 @@ pub record WritesAtItsEdges (m : Meaning) : Type 0 where
   pub last : write_of m 31 ≡ Ok tt
   pub outside : write_of m 32 ≡ Err OutOfRange
 
--- The worked cases: control words and the ALU; the edges of a memory; and the summing image, which any machine with a memory of its size and mark 0 takes, runs to this report, and leaves with 1 in word 15.
+-- The worked cases: control words and the ALU; the edges of a memory; and the summing image, which any machine with a memory of its size and mark 0 takes, runs to this report, and leaves with 1 in word 15; and the report's four lines.
 pub record WorkedCases (report : Report) : Type 0 where
   pub control_words : WorkedExamples
   pub edges : (m : Meaning) → size_of m ≡ 32 → m.mark ≡ 9 → WritesAtItsEdges m
+  pub lines : report_text report ≡ codes "end 38" ++ (newline ++ (codes "steps 28" ++ (newline ++ (codes "cycles 177" ++ (newline ++ codes "top 6")))))
   pub numbers : (access_number Protected ≡ 5) × (access_number OutOfRange ≡ 4)
   pub prints : (k : Kit) → size_of k.micro.memory ≡ 32 → k.micro.memory.mark ≡ 0 → report_by summing_image 1000000 k ≡ report
   pub word_15 : (k : Kit) → size_of k.micro.memory ≡ 32 → k.micro.memory.mark ≡ 0

@@ -13,7 +13,7 @@ pub struct Report {
     pub steps: u64,
     // the cycles that the counter shows
     pub cycles: u64,
-    // the top of the operand stack, as a signed number; none where the stack is empty
+    // the top of the operand stack, as a signed number; none where the stack is empty, or the image was refused
     pub top: Option<i32>,
 }
 

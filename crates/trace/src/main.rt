@@ -22,11 +22,11 @@ fn main(rt: HostRuntime) -> anyhow::Result<()> {
     let mut image = Vec::new(heap);
     rt.stdin().take(MOST_BYTES).read_to_end(&mut image)?;
     let size = memory_size(&image);
-    let mut words = vec![in heap; 0u32; size]?;
-    let mut same = vec![in heap; 0u32; size]?;
-    let memory = WordMemory::make(words.as_mut_slice());
+    let mut stepped_words = vec![in heap; 0u32; size]?;
+    let mut traced_words = vec![in heap; 0u32; size]?;
+    let memory = WordMemory::make(stepped_words.as_mut_slice());
     let mut stepped = Machine::power(memory, Registers::default(), 0, 0);
-    let memory = WordMemory::make(same.as_mut_slice());
+    let memory = WordMemory::make(traced_words.as_mut_slice());
     let mut traced = Machine::power(memory, Registers::default(), 0, 0);
     run(&rt, &mut stepped, &mut traced, &image)
 }

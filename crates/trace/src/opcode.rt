@@ -4,7 +4,7 @@ ghost use Rattle.trace.specs.Mnemonics.{mnemonic_text_of};
 
 use std::fmt;
 
-// An opcode, displayed as the name of its instruction: any byte, since those that are none are displayed too. (The opcodes of the instruction machine name cases, and not every byte.)
+// An opcode, displayed as the name of its instruction. The bytes that are no opcode have an arm since a match needs one; no performed instruction has one.
 #[derive(Clone, Copy, Debug, PartialEq, Eq)]
 pub struct Opcode(pub u8);
 

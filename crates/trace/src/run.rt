@@ -10,10 +10,10 @@ use instructions::StepRefusal;
 use memory::Memory;
 use microprogram::published_store;
 
-// As many cycles as are traced. No instruction takes fewer than two, so half as many instructions are enough.
+// As many cycles as are traced. No instruction takes fewer than two, so of half as many instructions and one more the last is refused or goes past them.
 const MOST_CYCLES: u64 = 10_000;
 
-const MOST_INSTRUCTIONS: u64 = MOST_CYCLES / 2;
+const MOST_INSTRUCTIONS: u64 = MOST_CYCLES / 2 + 1;
 
 // An instruction that was performed: where it stood, in which frame, which it was, and its cycles.
 #[derive(Clone, Copy, Debug, PartialEq, Eq)]

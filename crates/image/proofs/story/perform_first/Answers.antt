@@ -10,5 +10,5 @@ loop-i-init g c = let k = kit_of g.M.Memory.meaning c.args.machine.now in ((none
 pub loop-i-preserved : goal.loop-i-preserved
 loop-i-preserved g c =
     let h = c.loop-i.invariant in
-    let more = performed_more c.args.calls.now c.loop-i.answers c.loop-i.i _ c.obey.result _ _ _ (omega (arith, c.requires.calls, c.loop-i-test.true)) (omega (arith, c.requires.answers, c.loop-i-test.true, c.loop-i.auto.answers)) (search rules) h.0 h.1 h.2 c.obey.ensures.answer c.obey.ensures.after c.obey.ensures.begins in
-    (more.0, more.1, more.2, rest_more c.loop-i.answers c.args.answers.now c.loop-i.i c.obey.result h.3, c.obey.ensures.loan ∙ h.4)
+    let more = performed_more c.args.calls.now c.loop-i.answers c.loop-i.i _ c.perform_one.result _ _ _ (omega (arith, c.requires.calls, c.loop-i-test.true)) (omega (arith, c.requires.answers, c.loop-i-test.true, c.loop-i.auto.answers)) (search rules) h.0 h.1 h.2 c.perform_one.ensures.answer c.perform_one.ensures.after c.perform_one.ensures.begins in
+    (more.0, more.1, more.2, rest_more c.loop-i.answers c.args.answers.now c.loop-i.i c.perform_one.result h.3, c.perform_one.ensures.loan ∙ h.4)
