@@ -37,7 +37,7 @@ pub record WritesAtItsEdges (m : Meaning) : Type 0 where
   pub outside : write_of m 32 ≡ Err OutOfRange
 
 -- The worked cases: control words and the ALU; the edges of a memory; and the summing image, which any machine with a memory of its size and mark 0 takes, runs to this report, and leaves with 1 in word 15; and the report's four lines.
-pub record WorkedCases (report : Report) : Type 0 where
+pub record Worked (report : Report) : Type 0 where
   pub control_words : WorkedExamples
   pub edges : (m : Meaning) → size_of m ≡ 32 → m.mark ≡ 9 → WritesAtItsEdges m
   pub lines : report_text report ≡ codes "end 38" ++ (newline ++ (codes "steps 28" ++ (newline ++ (codes "cycles 177" ++ (newline ++ codes "top 6")))))
@@ -45,3 +45,7 @@ pub record WorkedCases (report : Report) : Type 0 where
   pub prints : (k : Kit) → size_of k.micro.memory ≡ 32 → k.micro.memory.mark ≡ 0 → report_by summing_image 1000000 k ≡ report
   pub word_15 : (k : Kit) → size_of k.micro.memory ≡ 32 → k.micro.memory.mark ≡ 0
       → look_of (shows (ran_of 1000000 (load_reply summing_image k).after).after) 15 ≡ Ok 1
+
+-- The same as one fact, which a proof does not take apart unless it is told to.
+unfoldable pub WorkedCases : Report → Type 0
+WorkedCases = Worked
