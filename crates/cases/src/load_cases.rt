@@ -19,7 +19,7 @@ pub const UNSEALED: [Edit; 7] = [
         32,
         0,
     ),
-    ("number of blocks, and its check", 2, &[(0, 3)], 32, 0),
+    ("21 before 22: word 0 is 3", 2, &[(0, 3)], 32, 0),
     (
         "three blocks, the check of the last 0",
         3,

@@ -27,9 +27,11 @@ control_reason TooWide = codes "a number or a field is too wide"
 control_reason TwoShifts = codes "SLL8 with SRA1"
 control_reason TwoAccesses = codes "WRITE with READ"
 
+-- With the number before it.
 abbrev pub control_text : ControlRefusal → List ℕ
 control_text refusal = codes "refused " ++ (decimal (control_number refusal) ++ (codes ": " ++ control_reason refusal))
 
+-- A refusal of fill as text: a refused number's with its address.
 abbrev pub fill_text : FillRefusal → List ℕ
 fill_text WrongCount = codes "refused " ++ (decimal (fill_number WrongCount) ++ codes ": the count is not 512")
 fill_text (WrongWord address cause) = control_text cause ++ (codes ", at address " ++ decimal address)

@@ -15,6 +15,7 @@ power_number WrongMpc = 11
 abbrev pub power_reason : PowerRefusal → List ℕ
 power_reason WrongMpc = codes "MPC is above 511"
 
+-- With the number before it.
 abbrev pub power_text : PowerRefusal → List ℕ
 power_text refusal = codes "refused " ++ (decimal (power_number refusal) ++ (codes ": " ++ power_reason refusal))
 

@@ -90,10 +90,7 @@ impl<M: Memory> Machine<M> {
     fn next_case(&self) -> Result<Case, StepRefusal>
         ensures { result ≡ step_from (shows (kit_of M.Memory.meaning self.now)) }
     {
-        match self.shown() {
-            None => Err(StepRefusal::NotLoaded),
-            Some(shown) => shown.step(),
-        }
+        self.shown().ok_or(StepRefusal::NotLoaded)?.step()
     }
 
     // As many cycles from the published store as the table has for the case; how many of them were done.
@@ -106,7 +103,7 @@ impl<M: Memory> Machine<M> {
         done
     }
 
-    // A step, whatever the machine holds.
+    // A step, whatever the machine holds. Apart from `step`, whose part in the whole statement is proved from these clauses; so it is with a run, a look and a load.
     #[tactic(auto, unfolding(crate::specs::Calls::stepped_of))]
     fn stepped(&mut self) -> Result<u64, StepRefusal>
         ensures answer { result ≡ (stepped_of (kit_of M.Memory.meaning self.old)).answer }
@@ -165,10 +162,8 @@ impl<M: Memory> Machine<M> {
     fn looked(&self, address: u32) -> Result<u32, LookRefusal>
         ensures { result ≡ look_of (shows (kit_of M.Memory.meaning self.now)) address }
     {
-        match self.shown() {
-            None => Err(LookRefusal::NotLoaded),
-            Some(shown) => shown.look(address).ok_or(LookRefusal::OutOfRange),
-        }
+        let shown = self.shown().ok_or(LookRefusal::NotLoaded)?;
+        shown.look(address).ok_or(LookRefusal::OutOfRange)
     }
 
     // The word at an address, with a write under way counted as done.

@@ -53,6 +53,7 @@ Callable s Call = (method_of s + 4 < 4 * s.mark) × (1 ≤ params_of s)
 abbrev pub VariableAt : Ijvm → ℕ → Type 0
 VariableAt s n = (1 ≤ n) × (s.lv + n < link_of s)
 
+-- The variable that the instruction names, if it names one, is one of the frame.
 abbrev pub HasVariable : Ijvm → Option Variable → Type 0
 HasVariable s None = Unit {0}
 HasVariable s (Some v) = VariableAt s (variable_of s v)
@@ -81,6 +82,7 @@ Allowed s h =
     × (new_sp s h.stack < size_of s)
     × LandsIn s (next_pc s h.bytes h.way)
 
+-- A case applies.
 abbrev pub Applies : Case → Ijvm → Type 0
 Applies c s = (byte_at s s.pc ≡ (row_of c).opcode) × Condition c s × Allowed s (shape_of c)
 

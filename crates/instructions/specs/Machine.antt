@@ -28,6 +28,7 @@ byte_of words a = byte_in (slice_index words (a / 4)) a
 abbrev pub byte_at : Ijvm → ℕ → ℕ
 byte_at s a = byte_of s.words a
 
+-- The number in two bytes, the first of them the higher.
 abbrev pub short_at : Ijvm → ℕ → ℕ
 short_at s a = byte_at s a * 2 ^ 8 + byte_at s (a + 1)
 
@@ -39,6 +40,7 @@ in_code s a = nat_lt a (4 * s.mark)
 abbrev pub link_of : Ijvm → ℕ
 link_of s = word_at s s.lv
 
+-- Base.
 abbrev pub base_of : Ijvm → ℕ
 base_of s = link_of s + 1
 
@@ -54,6 +56,7 @@ is_variable s n = nat_le 1 n && nat_lt (s.lv + n) (link_of s)
 abbrev pub top_of : Ijvm → ℕ
 top_of s = word_at s s.sp
 
+-- Second.
 abbrev pub second_of : Ijvm → ℕ
 second_of s = word_at s (s.sp - 1)
 
@@ -61,9 +64,11 @@ second_of s = word_at s (s.sp - 1)
 abbrev pub method_of : Ijvm → ℕ
 method_of s = word_at s (s.cpp + short_at s (s.pc + 1))
 
+-- Its params.
 abbrev pub params_of : Ijvm → ℕ
 params_of s = short_at s (method_of s)
 
+-- Its locals.
 abbrev pub locals_of : Ijvm → ℕ
 locals_of s = short_at s (method_of s + 2)
 
@@ -71,6 +76,7 @@ locals_of s = short_at s (method_of s + 2)
 abbrev pub objref_of : Ijvm → ℕ
 objref_of s = s.sp - params_of s + 1
 
+-- The new link.
 abbrev pub new_link_of : Ijvm → ℕ
 new_link_of s = s.sp + locals_of s + 1
 

@@ -16,6 +16,7 @@ calls_by Branch = 0
 calls_by Return = 0
 calls_by Call = 1
 
+-- Added up over a list.
 abbrev pub calls : List Case → ℕ
 calls [] = 0
 calls (c ∷ cs) = calls_by (shape_of c).way + calls cs
@@ -27,6 +28,7 @@ returns_by Branch = 0
 returns_by Return = 1
 returns_by Call = 0
 
+-- Added up over a list.
 abbrev pub returns : List Case → ℕ
 returns [] = 0
 returns (c ∷ cs) = returns_by (shape_of c).way + returns cs

@@ -15,9 +15,11 @@ pub record Entry : Type 0 where
 abbrev one : Case → Entry
 one c = record { number = (row_of c).opcode; opcode = One c }
 
+-- An opcode of several cases, which share their row's opcode.
 abbrev several : Case → Opcode → Entry
 several c opcode = record { number = (row_of c).opcode; opcode = opcode }
 
+-- All opcodes, in the table's order.
 abbrev pub entries : List Entry
 entries =
     one Nop ∷ (one Bipush ∷ (one LdcW ∷ (one Iload ∷ (one Istore ∷ (one Pop ∷ (one Dup ∷ (one Swap
@@ -31,5 +33,6 @@ abbrev pub find : ℕ → List Entry → Option Opcode
 find n [] = None
 find n (e ∷ rest) = cond (n == e.number) (Some e.opcode) (find n rest)
 
+-- What a byte is as an opcode.
 abbrev pub opcode_of : ℕ → Option Opcode
 opcode_of n = find n entries

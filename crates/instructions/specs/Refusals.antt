@@ -3,6 +3,7 @@ use Rattle.std.specs.Prelude.{ℕ, List, ◌++◌, codes, decimal}
 use Rattle.instructions.specs.declared.refusal.StepRefusal.{StepRefusal}
 use Rattle.instructions.specs.declared.refusal.StepRefusal.TheVariants.{OutsideCode, UnknownOpcode, TooShallow, NoVariable, NotInPool, WrongMethod, NoRoom, NextOutside, End, NotLoaded}
 
+-- 30 to 39.
 abbrev pub step_number : StepRefusal → ℕ
 step_number OutsideCode = 30
 step_number UnknownOpcode = 31
@@ -28,5 +29,6 @@ step_reason NextOutside = codes "the next PC lies outside code"
 step_reason End = codes "main returns"
 step_reason NotLoaded = codes "no program is loaded"
 
+-- With the number before it.
 abbrev pub step_text : StepRefusal → List ℕ
 step_text refusal = codes "refused " ++ (decimal (step_number refusal) ++ (codes ": " ++ step_reason refusal))

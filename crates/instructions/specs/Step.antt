@@ -90,6 +90,7 @@ checks_of s h =
     ∷ (lands_in s (next_pc s h.bytes h.way) else NextOutside
     ∷ [])))))))
 
+-- What the checks of a case say.
 abbrev pub allowed_of : Ijvm → Shape → Result (Unit {0}) StepRefusal
 allowed_of s h = first_refusal (checks_of s h)
 
@@ -98,6 +99,7 @@ abbrev pub unless_refused : Case → Result (Unit {0}) StepRefusal → Result Ca
 unless_refused c (Ok _) = Ok c
 unless_refused c (Err refusal) = Err refusal
 
+-- The case that was found, by its checks.
 abbrev pub checked_case : Ijvm → Result Case StepRefusal → Result Case StepRefusal
 checked_case s (Ok c) = unless_refused c (allowed_of s (shape_of c))
 checked_case s (Err refusal) = Err refusal

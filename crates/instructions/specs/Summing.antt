@@ -57,6 +57,7 @@ pub record ATurnTakes (cycles : ℕ) : Type 0 where
 abbrev pub last_turn : List Case
 last_turn = Iload ∷ (Iload ∷ (Iadd ∷ (Istore ∷ (Iinc ∷ (Iload ∷ (IfeqTaken ∷ []))))))
 
+-- The loop: so many turns, and the last one.
 abbrev pub loop : ℕ → List Case
 loop zero = last_turn
 loop (suc k) = turn ++ loop k
@@ -86,6 +87,7 @@ method n = (Bipush ∷ (Istore ∷ (Bipush ∷ (Istore ∷ [])))) ++ (loop (n - 
 abbrev pub start : ℕ → List ℕ → Ijvm
 start n = summing n 4 13 0 0 0 0
 
+-- The end.
 abbrev pub finish : ℕ → List ℕ → Ijvm
 finish n = summing n 32 14 0 (up_to n) (up_to n) 1
 

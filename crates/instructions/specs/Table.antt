@@ -51,24 +51,31 @@ leaving s = slice_set s.words s.lv (top_of s)
 abbrev pub constant_of : Ijvm → ℕ
 constant_of s = word_at s (s.cpp + short_at s (s.pc + 1))
 
+-- The variable that is named.
 abbrev pub loaded_of : Variable → Ijvm → ℕ
 loaded_of v s = word_at s (s.lv + variable_of s v)
 
+-- The byte behind the opcode, as a signed number.
 abbrev pub signed_byte_of : Ijvm → ℕ
 signed_byte_of s = signed (byte_at s (s.pc + 1))
 
+-- Second + top.
 abbrev pub sum_of : Ijvm → ℕ
 sum_of s = (second_of s + top_of s) % 2 ^ 32
 
+-- Second − top.
 abbrev pub difference_of : Ijvm → ℕ
 difference_of s = (second_of s + (2 ^ 32 - top_of s)) % 2 ^ 32
 
+-- Second AND top.
 abbrev pub and_of : Ijvm → ℕ
 and_of s = bit_and (second_of s) (top_of s)
 
+-- Second OR top.
 abbrev pub or_of : Ijvm → ℕ
 or_of s = bit_or (second_of s) (top_of s)
 
+-- The variable with the constant added.
 abbrev pub increased_of : Ijvm → ℕ
 increased_of s = (loaded_of ByByte s + signed (byte_at s (s.pc + 2))) % 2 ^ 32
 
@@ -79,6 +86,7 @@ pub record Row : Type 0 where
   pub cycles : ℕ
   pub writes : Ijvm → List ℕ
 
+-- A row by its columns.
 abbrev row : (opcode bytes : ℕ) (pool : Bool) (depth : ℕ) → Option Variable → Stack → Way → (cycles : ℕ) → (Ijvm → List ℕ) → Row
 row opcode bytes pool depth variable stack way cycles writes = record {
   opcode = opcode;
@@ -114,6 +122,7 @@ row_of Invokevirtual = row 0xB6 3 true 0 None Enter Call 23 entering
 row_of WideIload = row 0xC4 4 false 0 (Some ByShort) Push On 10 (pushing (loaded_of ByShort))
 row_of WideIstore = row 0xC4 4 false 1 (Some ByShort) Pop On 11 (storing ByShort top_of)
 
+-- What the checks of a step go by.
 abbrev pub shape_of : Case → Shape
 shape_of c = (row_of c).shape
 

@@ -26,18 +26,23 @@ abbrev pub make_reason : MakeRefusal → List ℕ
 make_reason WrongSize = codes "the size is not from 16 to 1048576 words"
 make_reason BrokenWord = codes "the buffer is no whole number of words"
 
+-- With the number before it.
 abbrev pub make_text : MakeRefusal → List ℕ
 make_text refusal = codes "refused " ++ (decimal (make_number refusal) ++ (codes ": " ++ make_reason refusal))
 
+-- Why a word is neither read nor written, in words.
 abbrev pub access_reason : AccessRefusal → List ℕ
 access_reason OutOfRange = codes "the address is not below the size"
 access_reason Protected = codes "the word is protected"
 
+-- With the number before it.
 abbrev pub access_text : AccessRefusal → List ℕ
 access_text refusal = codes "refused " ++ (decimal (access_number refusal) ++ (codes ": " ++ access_reason refusal))
 
+-- Why the mark stays, in words.
 abbrev pub protect_reason : ProtectRefusal → List ℕ
 protect_reason WrongMark = codes "the mark is below the present one or above the size"
 
+-- With the number before it.
 abbrev pub protect_text : ProtectRefusal → List ℕ
 protect_text refusal = codes "refused " ++ (decimal (protect_number refusal) ++ (codes ": " ++ protect_reason refusal))

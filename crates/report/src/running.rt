@@ -16,12 +16,10 @@ use memory::{Cell, LentMemory, Memory};
 pub fn memory_size(bytes: &[u8]) -> usize
     ensures { result ≡ memory_size_of bytes.now }
 {
-    match bytes.get(4..8).and_then(|word| word.try_into().ok()) {
-        Some(word) => match u32::from_be_bytes(word) {
-            size @ 16..=8192 => size as usize,
-            _ => 8192,
-        },
-        None => 8192,
+    let word = bytes.get(4..8).and_then(|word| word.try_into().ok());
+    match word.map(u32::from_be_bytes) {
+        Some(size @ 16..=8192) => size as usize,
+        _ => 8192,
     }
 }
 
