@@ -14,21 +14,21 @@ impl<M: Memory> Shown<'_, M> {
         ensures value { result ≡ (seen M.Memory.meaning self.now).pc }
         ensures small { result < 2 ^ 32 }
     {
-        u64::from(self.datapath.state.registers.pc)
+        u64::from(self.datapath.file.registers().pc)
     }
 
     pub(crate) fn sp(&self) -> u64
         ensures value { result ≡ (seen M.Memory.meaning self.now).sp }
         ensures small { result < 2 ^ 32 }
     {
-        u64::from(self.datapath.state.registers.sp)
+        u64::from(self.datapath.file.registers().sp)
     }
 
     pub(crate) fn lv(&self) -> u64
         ensures value { result ≡ (seen M.Memory.meaning self.now).lv }
         ensures small { result < 2 ^ 32 }
     {
-        u64::from(self.datapath.state.registers.lv)
+        u64::from(self.datapath.file.registers().lv)
     }
 
     // The byte address at which code ends.
@@ -112,7 +112,7 @@ impl<M: Memory> Shown<'_, M> {
         ensures value { result ≡ method_of (seen M.Memory.meaning self.now) }
         ensures small { result < 2 ^ 32 }
     {
-        let cpp = u64::from(self.datapath.state.registers.cpp);
+        let cpp = u64::from(self.datapath.file.registers().cpp);
         u64::from(self.word(cpp + self.index()))
     }
 
@@ -158,6 +158,7 @@ impl<M: Memory> Shown<'_, M> {
     }
 
     // The next PC, if there is one.
+    #[inline(always)]
     pub(crate) fn next_pc(&self, shape: Shape) -> Option<u64>
         ensures { result ≡ next_pc (seen M.Memory.meaning self.now) shape.bytes shape.way }
     {

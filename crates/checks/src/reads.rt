@@ -5,7 +5,7 @@ ghost use Rattle.instructions.specs.Machine.{word_at, byte_at, short_at};
 ghost use Rattle.checks.specs.Shown.{seen, word_there};
 
 use crate::Shown;
-use datapath::DataAccess;
+use control::Registers;
 use memory::Memory;
 
 // The byte at a byte address, of its word, the most significant first.
@@ -20,16 +20,12 @@ impl<M: Memory> Shown<'_, M> {
     pub fn look(&self, address: u32) -> Option<u32>
         ensures { result ≡ word_there (seen M.Memory.meaning self.now) address }
     {
-        let held = self.datapath.memory.read(address).ok()?;
-        match self.datapath.state.access {
-            Some(
-                DataAccess::Write {
-                    address: written,
-                    word,
-                    ..
-                },
-            ) if written == address => Some(word),
-            _ => Some(held),
+        let word = self.datapath.memory.read(address).ok()?;
+        let Registers { mar, mdr, .. } = self.datapath.file.registers();
+        if self.datapath.sequencer.write && mar == address {
+            Some(mdr)
+        } else {
+            Some(word)
         }
     }
 

@@ -1,6 +1,7 @@
 // The case that an opcode is, and the checks that a step makes of it.
 ghost use Rattle.std.specs.Prelude.{◌≡◌, ◌^◌, ◌<◌};
-ghost use Rattle.instructions.specs.Step.{wide_of, case_of, whole, in_pool, callable, needed_of, has_variable, was_called, has_room, lands_in, allowed_of, step_of};
+ghost use Rattle.instructions.specs.Step.{wide_of, case_of, whole, in_pool, callable, needed_of, has_variable, was_called, has_room, lands_in, allowed_of, unless_refused, step_of};
+ghost use Rattle.instructions.specs.Table.{shape_of};
 ghost use Rattle.checks.specs.Shown.{seen};
 
 use crate::Shown;
@@ -70,6 +71,7 @@ impl<M: Memory> Shown<'_, M> {
     }
 
     // A variable that the instruction names is one of the frame.
+    #[inline(always)]
     fn has_variable(&self, variable: Option<Variable>) -> bool
         ensures { result ≡ has_variable (seen M.Memory.meaning self.now) variable }
     {
@@ -104,6 +106,7 @@ impl<M: Memory> Shown<'_, M> {
     }
 
     // The checks of a row, in the order in which they are made.
+    #[inline(always)]
     fn allowed(&self, shape: Shape) -> Result<(), StepRefusal>
         ensures { result ≡ allowed_of (seen M.Memory.meaning self.now) shape }
     {
@@ -120,13 +123,38 @@ impl<M: Memory> Shown<'_, M> {
         check(self.lands(self.next_pc(shape)), StepRefusal::NextOutside)
     }
 
+    // A case, if its checks pass.
+    #[inline(always)]
+    fn checked(&self, case: Case) -> Result<Case, StepRefusal>
+        ensures { result ≡ unless_refused case (allowed_of (seen M.Memory.meaning self.now) (shape_of case)) }
+    {
+        self.allowed(Shape::of(case))?;
+        Ok(case)
+    }
+
+    // The same by a call for each case: in each the row is a constant, and the checks that it does not ask for fall away.
+    fn checked_apart(&self, case: Case) -> Result<Case, StepRefusal>
+        ensures { result ≡ unless_refused case (allowed_of (seen M.Memory.meaning self.now) (shape_of case)) }
+    {
+        macro_rules! apart {
+            ($($name:ident)*) => {
+                match case {
+                    $(Case::$name => self.checked(Case::$name),)*
+                }
+            };
+        }
+        apart!(
+            Nop Bipush LdcW Iload Istore Pop Dup Swap Iadd Isub Iand Ior Iinc IfeqFalls IfeqTaken IfltFalls IfltTaken
+            IfIcmpeqFalls IfIcmpeqTaken Goto Ireturn Invokevirtual WideIload WideIstore
+        )
+    }
+
     // The case that a step performs, or the first check that refuses it.
     #[tactic(auto, unfolding(instructions::specs::Step::step_of))]
     pub fn step(&self) -> Result<Case, StepRefusal>
         ensures { result ≡ step_of (seen M.Memory.meaning self.now) }
     {
         let case = self.case(Opcode::of(self.byte(self.pc())))?;
-        self.allowed(Shape::of(case))?;
-        Ok(case)
+        self.checked_apart(case)
     }
 }

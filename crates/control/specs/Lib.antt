@@ -6,3 +6,7 @@ pub mod Numbers
 pub mod Bus
 pub mod Alu
 pub mod AluTable
+pub mod Masks
+pub mod Slots
+pub mod Straight
+pub mod PreparedWords

@@ -1,6 +1,6 @@
 // The ALU and the shifter.
-ghost use Rattle.std.specs.Prelude.{◌≡◌};
-ghost use Rattle.control.specs.Alu.{left_of, chosen_of, result_of, alu_of, shift_of};
+ghost use Rattle.std.specs.Prelude.{◌≡◌, ◌==◌};
+ghost use Rattle.control.specs.Alu.{left_of, chosen_of, result_of, negative, alu_of, shift_of};
 ghost use Rattle.control.specs.AluTable.{ByTheTable};
 
 use crate::ControlWord;
@@ -18,10 +18,10 @@ fn left(word: &ControlWord, h: u32) -> u32
 }
 
 // What F0 and F1 choose.
-fn chosen(word: &ControlWord, a: u32, b: u32, inc: u32) -> u32
-    ensures { result ≡ chosen_of word.now.f0 word.now.f1 a b inc }
+pub(crate) fn chosen(f0: bool, f1: bool, a: u32, b: u32, inc: u32) -> u32
+    ensures { result ≡ chosen_of f0 f1 a b inc }
 {
-    match (word.f0, word.f1) {
+    match (f0, f1) {
         (false, false) => a & b,
         (false, true) => a | b,
         (true, false) => !b,
@@ -35,7 +35,14 @@ fn result(word: &ControlWord, h: u32, bus: u32) -> u32
     ensures table { ByTheTable word.now h bus result }
 {
     let right = if word.enb { bus } else { 0 };
-    chosen(word, left(word, h), right, u32::from(word.inc))
+    chosen(word.f0, word.f1, left(word, h), right, u32::from(word.inc))
+}
+
+// A result of the ALU with its N and Z.
+pub(crate) fn with_flags(value: u32) -> (u32, bool, bool)
+    ensures { result ≡ (value, negative value, (value == 0)) }
+{
+    (value, value.cast_signed() < 0, value == 0)
 }
 
 // The result of the ALU, N and Z, from H and the bus: it is a rule of the machine that they leave the ALU together, as one answer of three parts.
@@ -43,8 +50,7 @@ pub fn alu(word: &ControlWord, h: u32, bus: u32) -> (u32, bool, bool)
     ensures value { result ≡ alu_of word.now h bus }
     ensures table { ByTheTable word.now h bus result.0 }
 {
-    let result = result(word, h, bus);
-    (result, result.cast_signed() < 0, result == 0)
+    with_flags(result(word, h, bus))
 }
 
 // What the shifter makes of the result.

@@ -29,11 +29,12 @@ fn c_bits(number: u64) -> CBits
 }
 
 // The fields of a number of 36 bits, whether or not its flags clash. The casts are proved to lose nothing; a try_from would answer a Result that is always Ok.
-// NEXT's bound is a clause, here and below, and no type, since encode takes words of any NEXT.
+// NEXT's bound is a clause, here and below, and no fact of ControlWord, since encode takes words of any NEXT.
 pub(crate) fn fields(number: u64) -> ControlWord
     requires { number < 2 ^ 36 }
     ensures value { result ≡ fields_of number }
     ensures within { result.next < 2 ^ 9 }
+    ensures b { result.b < 2 ^ 4 }
     ensures back { Unclashed result → encode_of result ≡ Ok number }
 {
     ControlWord {

@@ -1,16 +1,20 @@
 // The control store.
-ghost use Rattle.std.specs.Prelude.{◌≡◌, ◌^◌, ◌<◌, length, replicate, Ok, slice_index};
+ghost use Rattle.std.specs.Prelude.{◌≡◌, ◌%◌, ◌^◌, ◌<◌, length, map, replicate, Ok, slice_index};
 ghost use Rattle.control.specs.Control.{fields_of};
+ghost use Rattle.control.specs.PreparedWords.{word_of};
 ghost use Rattle.control.specs.Store.{AllAccepted, first_refused, fill_of, filled_of, number_at};
 
 use crate::codec::fields;
-use crate::{ControlWord, FillRefusal, decode};
+use crate::{ControlWord, FillRefusal, PreparedWord, decode};
 
-// 512 control words by their numbers, none of which decode refuses. No impl Model: callers would see a list, and not that fact.
+// 512 control words by their numbers, none of which decode refuses, and beside them the same words prepared. No impl Model: callers would see a list, and not these facts.
 #[derive(Drop)]
 pub struct ControlStore {
+    words: [PreparedWord; 512],
     numbers: [u64; 512],
     ghost accepted: { AllAccepted numbers },
+    // the word at each place is that of the number there
+    ghost prepared: { map word_of words ≡ map fields_of numbers },
 }
 
 impl ControlStore {
@@ -18,7 +22,10 @@ impl ControlStore {
     pub fn new() -> ControlStore
         ensures { result.numbers ≡ replicate 512 0 }
     {
-        ControlStore { numbers: zeros() }
+        ControlStore {
+            words: zero_words(),
+            numbers: zeros(),
+        }
     }
 
     // Puts 512 numbers into the store; refused (10) for another count, else with decode's case and the first address that it refuses.
@@ -28,6 +35,7 @@ impl ControlStore {
     {
         let numbers = <[u64; 512]>::try_from(numbers).map_err(|_| FillRefusal::WrongCount)?;
         check_numbers(&numbers)?;
+        self.words = prepared(&numbers);
         self.numbers = numbers;
         Ok(())
     }
@@ -39,7 +47,7 @@ impl ControlStore {
         self.numbers.get(usize::from(address)).copied()
     }
 
-    // The control word at an address, and the word of the number 0 above 511. NEXT's bound is a clause and no type, since encode takes words of any NEXT.
+    // The control word at an address, and the word of the number 0 above 511. NEXT's bound is a clause and no fact of ControlWord, since encode takes words of any NEXT.
     #[tactic(auto, using(crate::proofs::Accepted::held))]
     pub fn word(&self, address: u16) -> ControlWord
         ensures value { result ≡ fields_of (slice_index self.now.numbers address) }
@@ -47,6 +55,43 @@ impl ControlStore {
     {
         fields(self.number(address).unwrap_or(0))
     }
+
+    // The control word at an address, prepared. Of an address nine bits count, as MPC has nine.
+    #[tactic(auto, using(crate::proofs::Preparation::prepared_at))]
+    pub fn prepared(&self, address: u16) -> &PreparedWord
+        ensures { word_of result.now ≡ fields_of (slice_index self.now.numbers (address % 512)) }
+    {
+        &self.words[usize::from(address % 512)]
+    }
+}
+
+// The words of a new store.
+fn zero_words() -> [PreparedWord; 512]
+    ensures { map word_of result ≡ map fields_of (replicate 512 0) }
+{
+    [PreparedWord::of(fields(0)); 512]
+}
+
+// The word of the number at an address, prepared.
+fn word_prepared(numbers: &[u64; 512], address: usize) -> PreparedWord
+    requires address { address < 512 }
+    requires accepted { AllAccepted numbers.now }
+    ensures { word_of result ≡ fields_of (slice_index numbers.now address) }
+{
+    PreparedWord::of(fields(numbers[address]))
+}
+
+// The words of numbers that decode accepts.
+#[tactic(auto, using(crate::proofs::Preparation::one_more, crate::proofs::Preparation::all_prepared))]
+fn prepared(numbers: &[u64; 512]) -> [PreparedWord; 512]
+    requires { AllAccepted numbers.now }
+    ensures { map word_of result ≡ map fields_of numbers.now }
+{
+    let mut words = zero_words();
+    for i in 0..512 {
+        words[i] = word_prepared(numbers, i);
+    }
+    words
 }
 
 // The numbers of a new store.

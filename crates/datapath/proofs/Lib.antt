@@ -1,1 +1,3 @@
 pub mod Repeated
+pub mod SlotLaws
+pub mod Straight

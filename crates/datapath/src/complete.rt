@@ -1,8 +1,10 @@
 // The completion of what is under way.
 ghost use Rattle.std.specs.Prelude.{◌≡◌};
 ghost use Rattle.datapath.specs.Cycle.{placed, byte_in, fetched_of, accessed_of, completed_of};
+ghost use Rattle.datapath.specs.Held.{registers_in, access_under_way, fetch_under_way};
 
-use crate::{DataAccess, Fault, FetchAccess, Port};
+use crate::{Fault, Port, RegisterFile, Sequencer};
+use control::Registers;
 use memory::{AccessRefusal, Memory};
 
 // The memory's answer; its refusal with the place where it came: what a fault has besides. A struct of the three for one private call is no plainer.
@@ -32,36 +34,35 @@ fn byte_of(word: u32, address: u32) -> u8
 // The byte of the fetch under way, if there is one.
 pub(crate) fn fetched<M: Memory>(
     memory: &M,
-    fetch: Option<FetchAccess>,
+    file: &RegisterFile,
+    at: &Sequencer,
 ) -> Result<Option<u8>, Fault>
-    ensures { result ≡ fetched_of (M.Memory.meaning memory.now) fetch }
+    ensures { result ≡ fetched_of (M.Memory.meaning memory.now) (fetch_under_way (registers_in file.now.words) at.now) }
 {
-    match fetch {
-        None => Ok(None),
-        Some(fetch) => {
-            let address = fetch.address / 4;
-            let word = place(memory.read(address), address, Port::Fetch, fetch.mpc)?;
-            Ok(Some(byte_of(word, fetch.address)))
-        }
+    if !at.fetch {
+        return Ok(None);
     }
+    let pc = file.registers().pc;
+    let word = place(memory.read(pc / 4), pc / 4, Port::Fetch, at.begun_at)?;
+    Ok(Some(byte_of(word, pc)))
 }
 
 // The word of the read under way, or the write under way done.
 pub(crate) fn accessed<M: Memory>(
     memory: &mut M,
-    access: Option<DataAccess>,
+    file: &RegisterFile,
+    at: &Sequencer,
 ) -> Result<Option<u32>, Fault>
-    ensures answer { result ≡ accessed_of (M.Memory.meaning memory.old) access }
-    ensures after { M.Memory.meaning memory.new ≡ completed_of (M.Memory.meaning memory.old) access }
+    ensures answer { result ≡ accessed_of (M.Memory.meaning memory.old) (access_under_way (registers_in file.now.words) at.now) }
+    ensures after { M.Memory.meaning memory.new ≡ completed_of (M.Memory.meaning memory.old) (access_under_way (registers_in file.now.words) at.now) }
     ensures loan { M.Memory.loan memory.new ≡ M.Memory.loan memory.old }
 {
-    match access {
-        None => Ok(None),
-        Some(DataAccess::Read { address, mpc }) => {
-            place((*memory).read(address), address, Port::Read, mpc).map(Some)
-        }
-        Some(DataAccess::Write { address, mpc, word }) => {
-            place(memory.write(address, word), address, Port::Write, mpc).map(|()| None)
-        }
+    let Registers { mar, mdr, .. } = file.registers();
+    if at.write {
+        place(memory.write(mar, mdr), mar, Port::Write, at.begun_at).map(|()| None)
+    } else if at.read {
+        place((*memory).read(mar), mar, Port::Read, at.begun_at).map(Some)
+    } else {
+        Ok(None)
     }
 }

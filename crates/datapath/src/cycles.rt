@@ -1,14 +1,18 @@
 // The datapath's calls.
-ghost use Rattle.std.specs.Prelude.{◌≡◌};
+ghost use Rattle.std.specs.Prelude.{◌≡◌, ◌+◌, ◌%◌, ◌^◌, ◌<◌, IfOk, IfErr, Ok, Err, slice_index};
+ghost use Rattle.control.specs.Control.{fields_of};
 ghost use Rattle.control.specs.Numbers.{numbers_in};
+ghost use Rattle.control.specs.PreparedWords.{word_of};
 ghost use Rattle.datapath.specs.Cycle.{cycle_of, answer_of, after_of};
 ghost use Rattle.datapath.specs.Go.{go_of, power_refusal_of, power_of};
+ghost use Rattle.datapath.specs.Held.{state_of, micro_with};
 ghost use Rattle.datapath.specs.Whole.{micro_of};
 
-use crate::advance::advance;
 use crate::complete::{accessed, fetched};
-use crate::{Datapath, Fault, PowerRefusal, State};
-use control::{ControlStore, Registers};
+use crate::computing::computed;
+use crate::starts::started;
+use crate::{Datapath, Fault, PowerRefusal, RegisterFile, Sequencer};
+use control::{ControlStore, PreparedWord, Registers};
 use memory::Memory;
 
 // Why power refuses an MPC (11), if it does. An Option, since it is the answer here and not a failure: power always gives a machine.
@@ -18,23 +22,74 @@ pub fn power_refusal(mpc: u16) -> Option<PowerRefusal>
     (mpc > 511).then_some(PowerRefusal::WrongMpc)
 }
 
+// The control word at MPC.
+#[tactic(auto, using(crate::proofs::SlotLaws::at_mpc))]
+fn word_at_mpc<'a>(store: &'a ControlStore, at: &Sequencer) -> &'a PreparedWord
+    ensures { word_of result.now ≡ fields_of (slice_index (numbers_in store.now) at.now.mpc) }
+{
+    store.prepared(at.mpc)
+}
+
+// Where the microprogram is after a word, and what that word began.
+#[inline(always)]
+fn sequencer_after(word: &PreparedWord, at: &Sequencer, mpc: u16) -> Sequencer
+    requires { mpc < 2 ^ 9 }
+    ensures counter { result.counter ≡ (at.now.counter + 1) % 2 ^ 64 }
+    ensures mpc { result.mpc ≡ mpc }
+    ensures begun_at { result.begun_at ≡ at.now.mpc }
+    ensures write { result.write ≡ (word_of word.now).write }
+    ensures read { result.read ≡ (word_of word.now).read }
+    ensures fetch { result.fetch ≡ (word_of word.now).fetch }
+{
+    Sequencer {
+        counter: at.counter.wrapping_add(1),
+        mpc,
+        begun_at: at.mpc,
+        write: word.word.write,
+        read: word.word.read,
+        fetch: word.word.fetch,
+        idle: word.idle,
+    }
+}
+
+// One cycle: where the microprogram is after it. Refused, it changes nothing. What it answers is no field that is changed in place, since only so the compiler keeps it out of memory.
+#[inline(always)]
+fn cycle_from<M: Memory>(
+    memory: &mut M,
+    file: &mut RegisterFile,
+    store: &ControlStore,
+    at: &Sequencer,
+) -> Result<Sequencer, Fault>
+    ensures done { IfOk result (λ next. cycle_of (numbers_in store.now) (micro_with M.Memory.meaning memory.old file.old at.now) ≡ Ok (micro_with M.Memory.meaning memory.new file.new next)) }
+    ensures fault { IfErr result (λ fault. cycle_of (numbers_in store.now) (micro_with M.Memory.meaning memory.old file.old at.now) ≡ Err fault) }
+    ensures kept { IfErr result (λ fault. micro_with M.Memory.meaning memory.new file.new at.now ≡ micro_with M.Memory.meaning memory.old file.old at.now) }
+    ensures loan { M.Memory.loan memory.new ≡ M.Memory.loan memory.old }
+{
+    let word = word_at_mpc(store, at);
+    let (c_bus, mpc) = computed(word, file);
+    // nothing is under way in about half of all cycles
+    if at.idle {
+        file.load(word, c_bus);
+        return Ok(sequencer_after(word, at, mpc));
+    }
+    let byte = fetched(memory, file, at)?;
+    let read = accessed(memory, file, at)?;
+    file.load(word, c_bus);
+    file.arrive(byte, read);
+    Ok(sequencer_after(word, at, mpc))
+}
+
 impl<M: Memory> Datapath<M> {
     // A machine over a memory, with counter 0 and nothing under way; with MPC 0 where the one given is refused.
     pub fn power(memory: M, registers: Registers, mbr: u8, mpc: u16) -> Datapath<M>
         ensures memory { result.memory ≡ memory }
-        ensures state { result.state ≡ power_of registers mbr mpc }
+        ensures state { state_of result.file result.sequencer ≡ power_of registers mbr mpc }
     {
-        let mpc = if power_refusal(mpc).is_some() { 0 } else { mpc };
+        let (file, sequencer) = started(&registers, mbr, mpc);
         Datapath {
             memory,
-            state: State {
-                registers,
-                mbr,
-                mpc,
-                counter: 0,
-                access: None,
-                fetch: None,
-            },
+            file,
+            sequencer,
         }
     }
 
@@ -44,26 +99,31 @@ impl<M: Memory> Datapath<M> {
         ensures after { micro_of M.Memory.meaning self.new ≡ after_of (micro_of M.Memory.meaning self.old) (cycle_of (numbers_in store.now) (micro_of M.Memory.meaning self.old)) }
         ensures loan { M.Memory.loan self.new.memory ≡ M.Memory.loan self.old.memory }
     {
-        let word = store.word(self.state.mpc);
-        let byte = fetched(&self.memory, self.state.fetch)?;
-        let read = accessed(&mut self.memory, self.state.access)?;
-        self.state = advance(&word, &self.state, byte, read);
+        self.sequencer = cycle_from(&mut self.memory, &mut self.file, store, &self.sequencer)?;
         Ok(())
     }
 
     // Up to n cycles; how many were done, and the fault of the one that stopped them. No Result: the cycles before a fault were done. The loop counts them, since that is the answer.
-    #[tactic(auto, using(crate::proofs::Repeated::go_start, crate::proofs::Repeated::go_more))]
+    #[tactic(auto, using(crate::proofs::Repeated::go_start, crate::proofs::Repeated::go_done, crate::proofs::Repeated::go_refused))]
+    // Not taken into its caller, where it would share the host's registers with the checks of a step.
+    #[inline(never)]
     pub fn go(&mut self, store: &ControlStore, n: u64) -> (u64, Option<Fault>)
         ensures done { result.0 ≡ (go_of (numbers_in store.now) n (micro_of M.Memory.meaning self.old)).done }
         ensures fault { result.1 ≡ (go_of (numbers_in store.now) n (micro_of M.Memory.meaning self.old)).fault }
         ensures after { micro_of M.Memory.meaning self.new ≡ (go_of (numbers_in store.now) n (micro_of M.Memory.meaning self.old)).after }
         ensures loan { M.Memory.loan self.new.memory ≡ M.Memory.loan self.old.memory }
     {
+        let mut at = self.sequencer;
         for done in 0..n {
-            if let Err(fault) = self.cycle(store) {
-                return (done, Some(fault));
+            match cycle_from(&mut self.memory, &mut self.file, store, &at) {
+                Ok(next) => at = next,
+                Err(fault) => {
+                    self.sequencer = at;
+                    return (done, Some(fault));
+                }
             }
         }
+        self.sequencer = at;
         (n, None)
     }
 }

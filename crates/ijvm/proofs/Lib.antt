@@ -1,3 +1,4 @@
 pub mod Steps
 pub mod Continued
 pub mod Started
+pub mod Refused

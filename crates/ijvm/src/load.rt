@@ -1,6 +1,7 @@
 // A program is loaded.
 ghost use Rattle.std.specs.Prelude.{◌≡◌, ℕ, ◌+◌, ◌^◌, ◌<◌, Ok};
 ghost use Rattle.datapath.specs.Cycle.{byte_in};
+ghost use Rattle.datapath.specs.Held.{state_of};
 ghost use Rattle.memory.specs.Meaning.{size_of};
 ghost use Rattle.instructions.specs.Checks.{first_refusal};
 ghost use Rattle.ijvm.specs.Kit.{kit_of};
@@ -10,7 +11,7 @@ ghost use Rattle.ijvm.specs.History.{Begins, Continues, RefusedLater};
 
 use crate::{Layout, Machine, Numbers, Program, StartRefusal};
 use control::Registers;
-use datapath::State;
+use datapath::Datapath;
 use instructions::check;
 use memory::Memory;
 
@@ -68,28 +69,23 @@ fn place<M: Memory, P: Program>(memory: &mut M, program: &P, layout: Layout)
     let _ = memory.write(numbers.mark, link);
 }
 
-// The state in which main starts: MBR is the byte at PC, which is a protected one.
+// Starts main: MBR is the byte at PC, which is a protected one.
 #[tactic(auto, using(crate::proofs::Started::first_byte))]
-fn start_state<P: Program>(program: &P, layout: Layout) -> State
-    ensures { result ≡ (fresh_of layout.numbers (P.Program.words program.now)).state }
+fn start_main<M, P: Program>(datapath: &mut Datapath<M>, program: &P, layout: Layout)
+    ensures state { state_of datapath.new.file datapath.new.sequencer ≡ (fresh_of layout.numbers (P.Program.words program.now)).state }
+    ensures memory { datapath.new.memory ≡ datapath.old.memory }
 {
     let numbers = layout.numbers;
     let pc = numbers.main + 4;
     let word = program.word(pc / 4);
-    State {
-        registers: Registers {
-            cpp: numbers.cpp,
-            lv: numbers.mark,
-            sp: numbers.mark + u32::from(numbers.locals) + 2,
-            pc,
-            ..Registers::default()
-        },
-        mbr: word.to_be_bytes()[(pc % 4) as usize],
-        mpc: MAIN1,
-        counter: 0,
-        access: None,
-        fetch: None,
-    }
+    let registers = Registers {
+        cpp: numbers.cpp,
+        lv: numbers.mark,
+        sp: numbers.mark + u32::from(numbers.locals) + 2,
+        pc,
+        ..Registers::default()
+    };
+    datapath.start(&registers, word.to_be_bytes()[(pc % 4) as usize], MAIN1);
 }
 
 impl<M: Memory> Machine<M> {
@@ -104,7 +100,7 @@ impl<M: Memory> Machine<M> {
         let layout = program.layout();
         fits(&self.datapath.memory, layout.numbers)?;
         place(&mut self.datapath.memory, program, layout);
-        self.datapath.state = start_state(program, layout);
+        start_main(&mut self.datapath, program, layout);
         self.pool = Some(layout.numbers.pool);
         Ok(())
     }

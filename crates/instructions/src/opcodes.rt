@@ -16,6 +16,7 @@ pub enum Opcode {
 
 impl Opcode {
     // The instruction that a byte is the opcode of, if there is one; a step says what it means that there is none, so this is no TryFrom.
+    #[inline(always)]
     pub fn of(byte: u8) -> Option<Opcode>
         ensures { result ≡ opcode_of byte }
     {

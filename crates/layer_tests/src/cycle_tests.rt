@@ -57,6 +57,35 @@ mod tests {
     }
 
     #[test]
+    fn a_word_loads_three_registers_and_a_start_leaves_none_of_it(
+        rt: HostRuntime,
+    ) -> Result<(), Fail> {
+        let mut words = [0u32; 16];
+        // OPC = TOS = MAR = H; goto 0x001
+        let store = store_of(0x818_6080, 0x800_0000)?;
+        let registers = Registers {
+            h: 5,
+            sp: 3,
+            ..Registers::default()
+        };
+        let mut machine = Datapath::power(WordMemory::make(&mut words), registers, 0, 0);
+        let (done, fault) = machine.go(&store, 1);
+        assert_eq!(rt; (done, fault.map(shown)), (1, None));
+        let loaded = Registers {
+            opc: 5,
+            tos: 5,
+            mar: 5,
+            ..registers
+        };
+        assert_eq!(rt; machine.state().registers, loaded);
+        machine.start(&registers, 9, 2);
+        let state = machine.state();
+        assert_eq!(rt; state.registers, registers);
+        assert_eq!(rt; (state.mbr, state.mpc, state.counter), (9, 2, 0));
+        Ok(())
+    }
+
+    #[test]
     fn a_read_out_of_range_and_a_write_to_a_protected_word(rt: HostRuntime) -> Result<(), Fail> {
         let mut words = [0u32; 16];
         // 0: MAR = H; rd; goto 0x001, then MAR = H; wr; goto 0x001

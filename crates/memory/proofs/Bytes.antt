@@ -1,5 +1,5 @@
 -- A word by its four bytes.
-use Rattle.std.proofs.Common.{◌≡◌, ℕ, ◌+◌, ◌-◌, ◌*◌, ◌/◌, ◌%◌, ◌^◌, ◌<◌, ◌≤◌, ◌≢◌, List, [], ◌∷◌, Some, length, get_or, set, slice_get, slice_range, ap, ◌∙◌, ⊎_elim, arith, rules}
+use Rattle.std.proofs.Common.{◌≡◌, ℕ, ◌+◌, ◌-◌, ◌*◌, ◌/◌, ◌%◌, ◌^◌, ◌<◌, ◌≤◌, ◌≢◌, List, [], ◌∷◌, Some, length, get_or, set, slice_get, ap, ◌∙◌, ⊎_elim, arith, rules}
 use Rattle.std.specs.Int.Digits.{number_from_digits}
 use Rattle.std.proofs.lemmas.Bool.{cases_lt}
 use Rattle.std.proofs.lemmas.List.{places}
@@ -20,11 +20,11 @@ four_bytes w h =
     omega arith
 
 -- the four bytes at 4 * a are the word at a
-pub bytes_read : (cells bytes : List ℕ) (a w : ℕ) → 4 * a + 4 ≤ length cells → bytes ≡ slice_range cells (4 * a) (4 * a + 4)
-    → w ≡ get_or bytes 0 0 * 16777216 + get_or bytes 1 0 * 65536 + get_or bytes 2 0 * 256 + get_or bytes 3 0 → Some w ≡ slice_get (words_of 4 256 cells) a
-bytes_read cells bytes a w h part e =
-    let at : (k : ℕ) → k < 4 → get_or bytes k 0 ≡ get_or cells (4 * a + k) 0 = λ k l. rw part (search (rules, places)) in
-    found 4 256 cells a w (omega arith) (omega (arith, at 0 (omega arith), at 1 (omega arith), at 2 (omega arith), at 3 (omega arith)))
+pub bytes_read : (cells : List ℕ) (a w : ℕ) → 4 * a + 4 ≤ length cells
+    → w ≡ get_or cells (4 * a) 0 * 16777216 + get_or cells (4 * a + 1) 0 * 65536 + get_or cells (4 * a + 2) 0 * 256 + get_or cells (4 * a + 3) 0 → Some w ≡ slice_get (words_of 4 256 cells) a
+bytes_read cells a w h e =
+    let first : get_or cells (4 * a) 0 ≡ get_or cells (4 * a + 0) 0 = ap (λ i. get_or cells i 0) {x = 4 * a} {y = 4 * a + 0} (omega arith) in
+    found 4 256 cells a w (omega arith) (omega (arith, first))
 
 -- the four bytes of a word, written at 4 * a, replace the word at a
 pub bytes_put : (cells ds : List ℕ) (a w : ℕ) → 4 * a + 4 ≤ length cells → w < 2 ^ 32

@@ -1,17 +1,20 @@
 -- Laws of the words that the cells of a buffer make.
-use Rattle.std.proofs.Common.{◌≡◌, ℕ, ◌+◌, ◌*◌, ◌/◌, ◌<◌, ◌≤◌, ◌≢◌, List, map, length, get_or, set, slice_get, Some, None, Option, Bor, ◌⊎◌, inl, inr, sym, refl, ap, ◌∙◌, ⊎_elim, mul_comm, add-mul, mul-le-mul_left, le-div_iff_mul-le, mul-add, arith, rules}
+use Rattle.std.proofs.Common.{◌≡◌, ℕ, ◌+◌, ◌*◌, ◌/◌, ◌<◌, ◌≤◌, ◌≢◌, Bool, true, false, cond, List, [], map, take, length, is_some, get_or, set, slice_get, nat_le, Some, None, Option, Ok, Err, Bor, ◌⊎◌, inl, inr, sym, refl, ap, ◌∙◌, ⊎_elim, mul_comm, add-mul, mul-le-mul_left, le-div_iff_mul-le, mul-add, arith, rules}
 use Rattle.std.specs.List.{range_with_len}
-use Rattle.std.specs.Option.{option_copied}
+use Rattle.std.specs.Option.{option_copied, ok_or}
 use Rattle.std.specs.Slice.{IsItemAt}
 use Rattle.std.specs.Int.Digits.{number_from_digits}
 use Rattle.std.proofs.lemmas.List.FromFn.{length-map-range_with_len, get_or-map-range_with_len, fill_by_all}
-use Rattle.std.proofs.lemmas.List.{length-set, get_or-set_same, get_or-set_other, ext_get_or}
-use Rattle.std.proofs.lemmas.Bool.{cases_lt, cases_eq}
+use Rattle.std.proofs.lemmas.List.{length-set, get_or-set_same, get_or-set_other, ext_get_or, nil_from_length, length-take-le}
+use Rattle.std.proofs.Math.Nat.{zero-div}
+use Rattle.std.proofs.Math.Seq.{take-length}
+use Rattle.std.proofs.lemmas.Bool.{cases_lt, cases_eq, lt-leb, le-leb}
 use Rattle.std.proofs.lemmas.Option.{slice_get-get_or, slice_get_past, slice_get_read}
 use Rattle.std.proofs.lemmas.List.{places}
 use Rattle.std.proofs.VecSteps.Gaps.{set_beyond}
 use borrow.Rule.Slice.PartMut.{put_mid}
-use Rattle.memory.specs.Cells.{word_at, words_of}
+use Rattle.memory.specs.Cells.{word_at, words_of, make_of, usable}
+use Rattle.memory.specs.declared.access_refusal.AccessRefusal.TheVariants.{OutOfRange}
 
 pub length-words_of : (n b : ℕ) (cells : List ℕ) → length (words_of n b cells) ≡ length cells / n
 length-words_of n b cells = length-map-range_with_len (word_at n b cells) 0 (length cells / n)
@@ -46,6 +49,36 @@ past n b cells a h = sym (slice_get_past (words_of n b cells) a (rw (length-word
 -- past the end nothing is replaced
 pub unset : (n b : ℕ) (cells : List ℕ) (a w : ℕ) → length cells / n ≤ a → words_of n b cells ≡ set (words_of n b cells) a w
 unset n b cells a w h = sym (set_beyond (words_of n b cells) a w (rw (length-words_of n b cells) h))
+
+-- what is read of words: the one at the address, or that it is out of range
+pub read_words : (words : List ℕ) (a : ℕ) → ok_or (slice_get words a) OutOfRange ≡ cond (nat_le (length words) a) (Err OutOfRange) (Ok (get_or words a 0))
+read_words words a =
+    ⊎_elim
+    (λ (l : a < length words). ap (λ o. ok_or o OutOfRange) (slice_get-get_or words a 0 l) ∙ ap (λ t. cond t (Err OutOfRange) (Ok (get_or words a 0))) (sym (lt-leb (length words) a l)))
+    (λ (g : length words ≤ a). ap (λ o. ok_or o OutOfRange) (slice_get_past words a g) ∙ ap (λ t. cond t (Err OutOfRange) (Ok (get_or words a 0))) (sym (le-leb (length words) a g)))
+    (cases_lt a (length words))
+
+no_words : (n b : ℕ) (cells : List ℕ) → length cells ≡ 0 → words_of n b cells ≡ []
+no_words n b cells h = nil_from_length (words_of n b cells) (length-words_of n b cells ∙ ap (λ m. m / n) h ∙ zero-div n)
+
+none_or_all : (refused : Bool) (m used : ℕ) → used ≡ cond refused 0 m → used ≤ m
+none_or_all true m used e = omega arith
+none_or_all false m used e = omega arith
+
+-- the cells that make words are those of the memory's words: all, or none of a buffer that make refuses
+module _ {C : Type 0} (n b : ℕ) (digits : List C → List ℕ) (count : (cells : List C) → length (digits cells) ≡ length cells) (cells : List C) where
+  taken : (refused : Bool) (used : ℕ) → used ≡ cond refused 0 (length cells) → words_of n b (digits (take used cells)) ≡ cond refused [] (words_of n b (digits cells))
+  taken true used e = no_words n b (digits (take used cells)) (count (take used cells) ∙ ap (λ k. length (take k cells)) e)
+  taken false used e = ap (λ k. words_of n b (digits (take k cells))) e ∙ ap (λ l. words_of n b (digits l)) (take-length cells)
+
+  pub used_words : (used : ℕ) → used ≡ cond (is_some (make_of n (length cells))) 0 (length cells) → words_of n b (digits (take used cells)) ≡ usable n b (digits cells)
+  used_words used whole = taken (is_some (make_of n (length cells))) used whole ∙ ap (λ k. cond (is_some (make_of n k)) [] (words_of n b (digits cells))) (sym (count cells))
+
+  pub used_size : (used : ℕ) → used ≡ cond (is_some (make_of n (length cells))) 0 (length cells) → used / n ≡ length (usable n b (digits cells))
+  used_size used whole =
+      ap (λ m. m / n) (sym (length-take-le used cells (none_or_all (is_some (make_of n (length cells))) (length cells) used whole)) ∙ sym (count (take used cells)))
+      ∙ sym (length-words_of n b (digits (take used cells)))
+      ∙ ap length (used_words used whole)
 
 -- lists made from functions of the index are equal where the functions are
 counted_same : (f g : ℕ → ℕ) (n : ℕ) → ((k : ℕ) → k < n → f k ≡ g k) → map f (range_with_len 0 n) ≡ map g (range_with_len 0 n)

@@ -88,7 +88,10 @@ impl Cell for u8 {
     #[tactic(auto, using(crate::proofs::Bytes::bytes_read, crate::proofs::Words::past))]
     fn word_at(cells: &[u8], address: u32) -> Option<u32> {
         let at = 4 * address as usize;
-        let bytes = cells.get(at..at + 4)?.try_into().ok()?;
+        if at + 4 > cells.len() {
+            return None;
+        }
+        let bytes = [cells[at], cells[at + 1], cells[at + 2], cells[at + 3]];
         Some(u32::from_be_bytes(bytes))
     }
 

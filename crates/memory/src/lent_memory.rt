@@ -1,15 +1,9 @@
 // A memory over a lent buffer of cells.
-ghost use Rattle.std.specs.Prelude.{◌≡◌, ◌≤◌, length};
+ghost use Rattle.std.specs.Prelude.{◌≡◌, length, is_some, if◌then◌else◌};
 ghost use Rattle.memory.specs.Buffers.{lent_meaning, lent_loan};
-ghost use Rattle.memory.specs.Cells.{make_of, made_of, usable};
+ghost use Rattle.memory.specs.Cells.{make_of, made_of};
 
-use crate::{AccessRefusal, Cell, MakeRefusal, Memory, ProtectRefusal};
-
-#[derive(Drop)]
-pub struct LentMemory<'a, C> {
-    cells: &'a mut [C],
-    mark: u32,
-}
+use crate::{AccessRefusal, Cell, LentMemory, MakeRefusal, Memory, ProtectRefusal};
 
 // A memory over a buffer of words.
 pub type WordMemory<'a> = LentMemory<'a, u32>;
@@ -24,7 +18,12 @@ impl<'a, C: Cell> LentMemory<'a, C> {
         ensures lender { result.cells.ghost_name ≡ cells.entry.ghost_name }
         ensures buffer { result.cells.now ≡ cells.old }
     {
-        LentMemory { cells, mark: 0 }
+        let used = used_of(cells);
+        LentMemory {
+            cells,
+            used,
+            mark: 0,
+        }
     }
 
     // Why make refuses the buffer (2, then 1), if it does. An Option, since it is the answer here and not a failure: make always gives a memory.
@@ -46,20 +45,23 @@ impl<'a, C: Cell> LentMemory<'a, C> {
         ensures lender { result.ghost_name ≡ self.entry.cells.ghost_name }
         ensures buffer { result.now ≡ self.entry.cells.now }
     {
-        let LentMemory { cells, mark: _ } = self;
+        let LentMemory {
+            cells,
+            used: _,
+            mark: _,
+        } = self;
         cells
     }
 }
 
-// How many words the memory over these cells has. The cast is proved to lose nothing; a try_from would answer a Result that is always Ok.
-fn size_over<C: Cell>(cells: &[C]) -> u32
-    ensures value { result ≡ length (usable C.PER_WORD C.base (C.digits cells.now)) }
-    ensures few { result ≤ 1048576 }
+// How many of these cells make words.
+fn used_of<C: Cell>(cells: &[C]) -> usize
+    ensures { result ≡ (if is_some (make_of C.PER_WORD (length cells.now)) then 0 else length cells.now) }
 {
     if LentMemory::refusal(cells).is_some() {
         0
     } else {
-        (cells.len() / C::PER_WORD) as u32
+        cells.len()
     }
 }
 
@@ -68,20 +70,20 @@ impl<C: Cell> Memory for LentMemory<'_, C> {
 
     ghost loan = { lent_loan C.PER_WORD C.digits };
 
+    // The cast is proved to lose nothing; a try_from would answer a Result that is always Ok.
+    #[tactic(auto, using(crate::proofs::Words::used_size))]
     fn size(&self) -> u32 {
-        size_over(self.cells)
+        (self.used / C::PER_WORD) as u32
     }
 
     fn mark(&self) -> u32 {
         self.mark.min(self.size())
     }
 
+    // One test, and not two: of the address against the cells that are used.
+    #[tactic(auto, using(crate::proofs::Words::used_words))]
     fn read(&self, address: u32) -> Result<u32, AccessRefusal> {
-        if address >= self.size() {
-            return Err(AccessRefusal::OutOfRange);
-        }
-        // the first test is for refused buffers, which have cells and no words
-        C::word_at(self.cells, address).ok_or(AccessRefusal::OutOfRange)
+        C::word_at(&self.cells[..self.used], address).ok_or(AccessRefusal::OutOfRange)
     }
 
     fn write(&mut self, address: u32, word: u32) -> Result<(), AccessRefusal> {

@@ -8,12 +8,14 @@ ghost use Rattle.memory.specs.Meaning.{Meaning, Proper, size_of, read_of, write_
 mod access_refusal;
 mod cell;
 mod lent_memory;
+mod lent_type;
 mod make_refusal;
 mod protect_refusal;
 
 pub use access_refusal::AccessRefusal;
 pub use cell::Cell;
-pub use lent_memory::{ByteMemory, LentMemory, WordMemory};
+pub use lent_memory::{ByteMemory, WordMemory};
+pub use lent_type::LentMemory;
 pub use make_refusal::MakeRefusal;
 pub use protect_refusal::ProtectRefusal;
 

@@ -28,4 +28,4 @@ returns c =
       b = n % 16;
     } in
     let e : word ≡ fields_of n = search rules in
-    record { value = e; within = omega arith; back = encode_word n word c.requires e }
+    record { value = e; within = omega arith; b = omega arith; back = encode_word n word c.requires e }
