@@ -1,9 +1,9 @@
-// The benchmark: runs the image on standard input over a memory of words and over one of bytes, and prints cycles and the time. A run that is too short to be timed is told without a time.
+// The benchmark: runs the image on standard input over a memory of words and over one of bytes, by direct calls and by perform, and prints cycles and the time. A run that is too short to be timed is told without a time.
 #![tactic(auto)]
 
 use control::Registers;
 use ijvm::{Machine, Ran};
-use image::load;
+use image::{Answer, Call, load, perform};
 use memory::{Cell, LentMemory, Memory};
 use report::memory_size;
 use std::io::Read;
@@ -17,10 +17,37 @@ const MOST_STEPS: u64 = 10_000_000;
 
 const TIMED_CYCLES: u64 = 1_000_000;
 
-// The run, in one call, so that it is inlined: the only call of run in this program.
+// Who calls run.
+#[derive(Clone, Copy)]
+enum Caller {
+    Direct,
+    Perform,
+}
+
+// A run of the machine, by its caller; how many steps it did.
+fn steps_by<M: Memory>(caller: Caller, machine: &mut Machine<M>) -> u64 {
+    match caller {
+        Caller::Direct => machine.run(MOST_STEPS).steps,
+        Caller::Perform => {
+            let none = Ran {
+                steps: 0,
+                stopped: None,
+            };
+            let mut answers = [Answer::Ran(none)];
+            perform(machine, &[Call::Run(MOST_STEPS)], &mut answers);
+            match answers {
+                [Answer::Ran(Ran { steps, .. })] => steps,
+                _ => 0,
+            }
+        }
+    }
+}
+
+// Loads the image into a memory over these cells, runs it, and tells steps, cycles and time.
 fn timed<C: Cell, R: Print + Clock>(
     rt: &R,
     name: &str,
+    caller: Caller,
     cells: &mut [C],
     image: &[u8],
 ) -> anyhow::Result<()> {
@@ -28,13 +55,13 @@ fn timed<C: Cell, R: Print + Clock>(
     let mut machine = Machine::power(memory, Registers::default(), 0, 0);
     load(&mut machine, image)?;
     let start = Instant::now(rt)?;
-    let Ran { steps, .. } = machine.run(MOST_STEPS);
+    let steps = steps_by(caller, &mut machine);
     let micros = start.elapsed(rt)?.as_micros().max(1);
     let cycles = machine.state().counter;
     println!(rt; "{name}: {steps} steps, {cycles} cycles")?;
     if cycles >= TIMED_CYCLES {
         let rate = u128::from(cycles) * 1_000_000 / micros;
-        println!(rt; "{name}: {} ms, {rate} cycles a second", micros / 1000)?;
+        println!(rt; "{name}: {micros} microseconds, {rate} cycles a second")?;
     }
     Ok(())
 }
@@ -45,7 +72,10 @@ fn main(rt: HostRuntime) -> anyhow::Result<()> {
     rt.stdin().take(MOST_BYTES).read_to_end(&mut image)?;
     let size = memory_size(&image);
     let mut words = vec![in heap; 0u32; size]?;
-    timed(&rt, "memory of words", words.as_mut_slice(), &image)?;
     let mut bytes = vec![in heap; 0u8; 4 * size]?;
-    timed(&rt, "memory of bytes", bytes.as_mut_slice(), &image)
+    let (words, bytes) = (words.as_mut_slice(), bytes.as_mut_slice());
+    timed(&rt, "words", Caller::Direct, words, &image)?;
+    timed(&rt, "bytes", Caller::Direct, bytes, &image)?;
+    timed(&rt, "words by perform", Caller::Perform, words, &image)?;
+    timed(&rt, "bytes by perform", Caller::Perform, bytes, &image)
 }
