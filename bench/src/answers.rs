@@ -122,20 +122,20 @@ impl Compared {
 
     /// Single bytes changed, with the checks left or mended.
     fn damages(&mut self, name: &str, image: &[u8], size: usize) -> Result<(), String> {
-        for place in 0..image.len() {
-            let close = place < 32 || (512..640).contains(&place) || place % 512 >= 500;
-            if !close && !place.is_multiple_of(11) {
+        for index in 0..image.len() {
+            let close = index < 32 || (512..640).contains(&index) || index % 512 >= 500;
+            if !close && !index.is_multiple_of(11) {
                 continue;
             }
             for change in [0x01, 0x02, 0x08, 0x80, 0xFF] {
                 for mended in [false, true] {
                     let mut image = image.to_vec();
-                    image[place] ^= change;
+                    image[index] ^= change;
                     if mended {
                         mend(&mut image);
                     }
                     let what = || {
-                        format!("{name}, byte {place} changed by {change:#04X}, mended: {mended}")
+                        format!("{name}, byte {index} changed by {change:#04X}, mended: {mended}")
                     };
                     self.input(&what, &image, (size, 0), STEPS)?;
                 }
@@ -176,8 +176,8 @@ impl Compared {
         for number in 0..RANDOM_IMAGES {
             let mut image = image.to_vec();
             for _ in 0..=random.below(12) {
-                let place = 512 + random.below(code_bytes) as usize;
-                image[place] = match random.below(4) {
+                let index = 512 + random.below(code_bytes) as usize;
+                image[index] = match random.below(4) {
                     0 => random.below(256) as u8,
                     1 => random.below(8) as u8,
                     _ => OPCODES[random.below(20) as usize],
@@ -193,8 +193,8 @@ impl Compared {
 }
 
 /// A word of block 0.
-fn word(image: &[u8], place: usize) -> u32 {
-    u32::from_be_bytes([0, 1, 2, 3].map(|byte| image[4 * place + byte]))
+fn word(image: &[u8], index: usize) -> u32 {
+    u32::from_be_bytes([0, 1, 2, 3].map(|byte| image[4 * index + byte]))
 }
 
 /// The bytes of code in block 1.

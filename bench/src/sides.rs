@@ -23,10 +23,10 @@ pub fn difference(kit: (&Report, &[u8]), plain: (&Report, &[u8])) -> Option<Stri
     if kit.0 != plain.0 {
         return Some(format!("the kit answers {:?}, plain {:?}", kit.0, plain.0));
     }
-    let place = (0..kit.1.len()).find(|&place| kit.1[place] != plain.1[place])?;
+    let index = (0..kit.1.len()).find(|&index| kit.1[index] != plain.1[index])?;
     Some(format!(
-        "byte {place} of the buffer is {:#04X} by the kit, {:#04X} by plain",
-        kit.1[place], plain.1[place]
+        "byte {index} of the buffer is {:#04X} by the kit, {:#04X} by plain",
+        kit.1[index], plain.1[index]
     ))
 }
 

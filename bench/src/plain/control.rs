@@ -97,7 +97,7 @@ impl ControlWord {
         if number >= 1 << 36 {
             return Err(ControlRefusal::TooWide);
         }
-        let bit = |place: u32| number >> place & 1 == 1;
+        let bit = |index: u32| number >> index & 1 == 1;
         let shift = match (bit(23), bit(22)) {
             (true, true) => return Err(ControlRefusal::TwoShifts),
             (true, false) => Shift::LeftByByte,

@@ -71,7 +71,7 @@ impl<'a> Image<'a> {
                 return Err(LoadRefusal::FailedCheck { block });
             }
         }
-        let header = |place: usize| u32::from_be_bytes(words[place]);
+        let header = |index: usize| u32::from_be_bytes(words[index]);
         let blocks = words.len() / BLOCK_WORDS;
         if header(0) as usize != blocks {
             return Err(LoadRefusal::WrongCount);

@@ -157,13 +157,13 @@ struct Method {
 
 /// The instruction machine as a datapath shows it, with a write under way counted as done. Sums are made in 64 bits,
 /// so that none wraps.
-pub struct Shown<'a, 'm> {
+pub struct View<'a, 'm> {
     pub datapath: &'a Datapath<'m>,
     /// The pool count.
     pub pool: u32,
 }
 
-impl Shown<'_, '_> {
+impl View<'_, '_> {
     /// The top of the operand stack, if its depth is at least 1.
     pub fn top(&self) -> Option<u32> {
         let sp = self.sp();

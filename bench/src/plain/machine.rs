@@ -3,7 +3,7 @@
 use crate::control::ControlStore;
 use crate::datapath::{Datapath, Registers, State};
 use crate::image::{Image, LoadRefusal};
-use crate::instructions::{Shown, StepRefusal};
+use crate::instructions::{View, StepRefusal};
 use crate::memory::Memory;
 use crate::published::PUBLISHED;
 
@@ -76,7 +76,7 @@ impl<'a> Machine<'a> {
 
     /// Performs one instruction, and answers its cycles.
     pub fn step(&mut self) -> Result<u32, StepRefusal> {
-        let cycles = self.shown().ok_or(StepRefusal::NotLoaded)?.check()?;
+        let cycles = self.view().ok_or(StepRefusal::NotLoaded)?.check()?;
         // No cycle of a checked step faults.
         let (done, _) = self.datapath.go(&self.store, cycles);
         Ok(done)
@@ -104,11 +104,11 @@ impl<'a> Machine<'a> {
 
     /// The top of the operand stack, if there is one.
     pub fn top(&self) -> Option<u32> {
-        self.shown()?.top()
+        self.view()?.top()
     }
 
-    fn shown(&self) -> Option<Shown<'_, 'a>> {
-        Some(Shown {
+    fn view(&self) -> Option<View<'_, 'a>> {
+        Some(View {
             datapath: &self.datapath,
             pool: self.pool?,
         })

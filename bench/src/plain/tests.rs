@@ -22,11 +22,11 @@ fn mend(image: &mut [u8]) {
 fn image(code: &[u8]) -> Vec<u8> {
     let code_words = (4 + code.len()).div_ceil(4) as u32;
     let mut image = vec![0; 1024];
-    for (place, number) in [2, 32, code_words + 1, code_words, 1, 0]
+    for (index, number) in [2, 32, code_words + 1, code_words, 1, 0]
         .into_iter()
         .enumerate()
     {
-        image[4 * place..4 * place + 4].copy_from_slice(&u32::to_be_bytes(number));
+        image[4 * index..4 * index + 4].copy_from_slice(&u32::to_be_bytes(number));
     }
     image[512..516].copy_from_slice(&[0, 1, 0, 2]);
     image[516..516 + code.len()].copy_from_slice(code);
@@ -132,9 +132,9 @@ fn refused_loads() {
     assert_eq!(refused(SUMMING, 124).end, 25);
     assert_eq!(refused(SUMMING, 127).end, 25);
     assert_eq!(refused(SUMMING, 0).end, 25);
-    let damaged = |place: usize, byte: u8, mended: bool| {
+    let damaged = |index: usize, byte: u8, mended: bool| {
         let mut image = SUMMING.to_vec();
-        image[place] = byte;
+        image[index] = byte;
         if mended {
             mend(&mut image);
         }

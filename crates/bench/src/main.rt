@@ -1,4 +1,4 @@
-// The benchmark: runs the image on standard input over a memory of words and over one of bytes, by direct calls and by perform, and prints cycles and the time. A run that is too short to be timed is told without a time.
+// The benchmark: runs the image on standard input over a memory of words and over one of bytes, by direct calls and by perform, and prints steps, cycles and the time. Of a run that is too short to be timed no time is printed.
 #![tactic(auto)]
 
 use control::Registers;
@@ -10,11 +10,13 @@ use std::io::Read;
 use std::rt::Clock;
 use std::time::Instant;
 
-// As many bytes as are read, as many steps as are made, and as many cycles as can be timed.
+// As many bytes of the image as are read.
 const MOST_BYTES: u64 = 32_768;
 
+// As many steps as are made.
 const MOST_STEPS: u64 = 10_000_000;
 
+// As many cycles as a run needs to be timed.
 const TIMED_CYCLES: u64 = 1_000_000;
 
 // Who calls run.
@@ -43,7 +45,7 @@ fn steps_by<M: Memory>(caller: Caller, machine: &mut Machine<M>) -> u64 {
     }
 }
 
-// Loads the image into a memory over these cells, runs it, and tells steps, cycles and time.
+// Loads the image into a memory over these cells, runs it, and prints steps, cycles and time.
 fn timed<C: Cell, R: Print + Clock>(
     rt: &R,
     name: &str,

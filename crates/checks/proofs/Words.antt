@@ -1,9 +1,9 @@
--- Words and bytes of what a machine shows.
+-- Words and bytes of some words.
 use Rattle.std.proofs.Common.{◌≡◌, ℕ, ◌/◌, ◌≤◌, List, length, slice_index, slice_get, unwrap_or, refl, sym}
 use Rattle.std.proofs.lemmas.Option.{unwrap_or-slice_get}
 use Rattle.std.proofs.lemmas.List.{get_or_past}
 use Rattle.datapath.specs.Cycle.{byte_in}
-use Rattle.instructions.specs.Machine.{byte_of}
+use Rattle.instructions.specs.Ijvm.{byte_of}
 
 -- a byte is read of its word
 pub byte_in_word : (words : List ℕ) (a : ℕ) → byte_of words a ≡ byte_in (slice_index words (a / 4)) a

@@ -1,9 +1,9 @@
-// The instruction machine as a datapath shows it, and what a step asks before it performs an instruction.
+// The state of the instruction machine, read off a datapath, and the checks of a step.
 #![tactic(auto)]
 
 mod frame;
 mod reads;
-mod shown;
 mod step_checks;
+mod view;
 
-pub use shown::Shown;
+pub use view::View;

@@ -1,10 +1,10 @@
 // What is read of the memory, with a write under way counted as done.
 ghost use Rattle.std.specs.Prelude.{◌≡◌, ◌^◌, ◌<◌};
 ghost use Rattle.datapath.specs.Cycle.{byte_in};
-ghost use Rattle.instructions.specs.Machine.{word_at, byte_at, short_at};
-ghost use Rattle.checks.specs.Shown.{seen, word_there};
+ghost use Rattle.instructions.specs.Ijvm.{word_at, byte_at, short_at};
+ghost use Rattle.checks.specs.View.{ijvm_in, word_there};
 
-use crate::Shown;
+use crate::View;
 use control::Registers;
 use memory::Memory;
 
@@ -15,10 +15,10 @@ fn byte_of(word: u32, address: u64) -> u8
     word.to_be_bytes()[(address % 4) as usize]
 }
 
-impl<M: Memory> Shown<'_, M> {
-    // The word at an address, if there is one.
+impl<M: Memory> View<'_, M> {
+    /// The word at a word address, with a write under way counted as done; none where the address is not below the memory's size (docs/instruction-machine.md).
     pub fn look(&self, address: u32) -> Option<u32>
-        ensures { result ≡ word_there (seen M.Memory.meaning self.now) address }
+        ensures { result ≡ word_there (ijvm_in M.Memory.meaning self.now) address }
     {
         let word = self.datapath.memory.read(address).ok()?;
         let Registers { mar, mdr, .. } = self.datapath.file.registers();
@@ -29,10 +29,10 @@ impl<M: Memory> Shown<'_, M> {
         }
     }
 
-    // The word at an address that may lie past every memory; 0 where there is none.
+    // The word at a word address, which may have more than 32 bits; 0 from the memory's size on.
     #[tactic(auto, using(crate::proofs::Words::looked_up, crate::proofs::Words::past_the_end))]
     pub(crate) fn word(&self, address: u64) -> u32
-        ensures { result ≡ word_at (seen M.Memory.meaning self.now) address }
+        ensures { result ≡ word_at (ijvm_in M.Memory.meaning self.now) address }
     {
         if address < u64::from(self.datapath.memory.size()) {
             self.look(address as u32).unwrap_or(0)
@@ -44,15 +44,15 @@ impl<M: Memory> Shown<'_, M> {
     // The byte at a byte address.
     #[tactic(auto, using(crate::proofs::Words::byte_in_word))]
     pub(crate) fn byte(&self, address: u64) -> u8
-        ensures { result ≡ byte_at (seen M.Memory.meaning self.now) address }
+        ensures { result ≡ byte_at (ijvm_in M.Memory.meaning self.now) address }
     {
         byte_of(self.word(address / 4), address)
     }
 
-    // The unsigned number in two bytes.
+    // The unsigned number in two bytes from a byte address on, the more significant byte first.
     pub(crate) fn short(&self, address: u64) -> u16
         requires { address < 2 ^ 63 }
-        ensures { result ≡ short_at (seen M.Memory.meaning self.now) address }
+        ensures { result ≡ short_at (ijvm_in M.Memory.meaning self.now) address }
     {
         u16::from_be_bytes([self.byte(address), self.byte(address + 1)])
     }

@@ -1,17 +1,17 @@
 // The case that an opcode is, and the checks that a step makes of it.
 ghost use Rattle.std.specs.Prelude.{◌≡◌, ◌^◌, ◌<◌};
-ghost use Rattle.instructions.specs.Step.{wide_of, case_of, whole, in_pool, callable, needed_of, has_variable, was_called, has_room, lands_in, allowed_of, unless_refused, step_of};
+ghost use Rattle.instructions.specs.Step.{wide_of, case_of, lies_in_code, in_pool, callable, needed_of, has_variable, was_called, has_room, lands_in, allowed_of, unless_refused, step_of};
 ghost use Rattle.instructions.specs.Table.{shape_of};
-ghost use Rattle.checks.specs.Shown.{seen};
+ghost use Rattle.checks.specs.View.{ijvm_in};
 
-use crate::Shown;
+use crate::View;
 use instructions::{Case, Opcode, Shape, StepRefusal, Variable, Way, check};
 use memory::Memory;
 
-impl<M: Memory> Shown<'_, M> {
-    // WIDE: its second byte in code, and there the opcode of ILOAD or ISTORE.
+impl<M: Memory> View<'_, M> {
+    // The case that WIDE is: the byte behind it lies in code (else 30), and is the opcode of ILOAD or ISTORE (else 31).
     fn wide(&self) -> Result<Case, StepRefusal>
-        ensures { result ≡ wide_of (seen M.Memory.meaning self.now) }
+        ensures { result ≡ wide_of (ijvm_in M.Memory.meaning self.now) }
     {
         check(self.in_code(self.pc() + 1), StepRefusal::OutsideCode)?;
         match Opcode::of(self.byte(self.pc() + 1)) {
@@ -21,9 +21,9 @@ impl<M: Memory> Shown<'_, M> {
         }
     }
 
-    // The case that an opcode is in this state.
+    // The case that an opcode is in this state; a byte that is none is refused with 31.
     fn case(&self, opcode: Option<Opcode>) -> Result<Case, StepRefusal>
-        ensures { result ≡ case_of (seen M.Memory.meaning self.now) opcode }
+        ensures { result ≡ case_of (ijvm_in M.Memory.meaning self.now) opcode }
     {
         match opcode {
             Some(Opcode::One(case)) => Ok(case),
@@ -38,30 +38,30 @@ impl<M: Memory> Shown<'_, M> {
         }
     }
 
-    // All bytes of the instruction lie in code.
-    fn whole(&self, shape: Shape) -> bool
-        ensures { result ≡ whole (seen M.Memory.meaning self.now) shape }
+    // The check for 30: all bytes of the instruction lie in code.
+    fn lies_in_code(&self, shape: Shape) -> bool
+        ensures { result ≡ lies_in_code (ijvm_in M.Memory.meaning self.now) shape }
     {
         self.pc() + u64::from(shape.bytes) <= self.code_end()
     }
 
-    // The index or disp is below the pool count.
+    // The check for 34: the index or disp, where there is one, is below the pool count.
     fn in_pool(&self, shape: Shape) -> bool
-        ensures { result ≡ in_pool (seen M.Memory.meaning self.now) shape }
+        ensures { result ≡ in_pool (ijvm_in M.Memory.meaning self.now) shape }
     {
         !shape.pool || self.index() < u64::from(self.pool)
     }
 
-    // A called method's code begins in code, and it has params.
+    // The check for 35: a called method's code begins in code, and its params are not 0.
     fn callable(&self, way: Way) -> bool
-        ensures { result ≡ callable (seen M.Memory.meaning self.now) way }
+        ensures { result ≡ callable (ijvm_in M.Memory.meaning self.now) way }
     {
         way != Way::Call || self.in_code(self.method() + 4) && self.params() >= 1
     }
 
-    // The depth that is needed: the table's, and a call's params.
+    // The depth that is needed, for the check for 32: a call needs its method's params, any other case its column of the table.
     fn needed(&self, shape: Shape) -> u64
-        ensures value { result ≡ needed_of (seen M.Memory.meaning self.now) shape shape.way }
+        ensures value { result ≡ needed_of (ijvm_in M.Memory.meaning self.now) shape shape.way }
         ensures small { result < 2 ^ 16 }
     {
         match shape.way {
@@ -70,10 +70,10 @@ impl<M: Memory> Shown<'_, M> {
         }
     }
 
-    // A variable that the instruction names is one of the frame.
+    // The check for 33: the variable that the instruction names, where it names one, is one of the frame.
     #[inline(always)]
     fn has_variable(&self, variable: Option<Variable>) -> bool
-        ensures { result ≡ has_variable (seen M.Memory.meaning self.now) variable }
+        ensures { result ≡ has_variable (ijvm_in M.Memory.meaning self.now) variable }
     {
         match variable {
             None => true,
@@ -81,23 +81,23 @@ impl<M: Memory> Shown<'_, M> {
         }
     }
 
-    // A return is not from main, whose frame lies at the mark.
+    // The check for 38: a return is not from main, whose LV is the mark.
     fn was_called(&self, way: Way) -> bool
-        ensures { result ≡ was_called (seen M.Memory.meaning self.now) way }
+        ensures { result ≡ was_called (ijvm_in M.Memory.meaning self.now) way }
     {
         way != Way::Return || self.lv() != u64::from(self.datapath.memory.mark())
     }
 
-    // The new SP is below size.
+    // The check for 36: the new SP is below the size.
     fn has_room(&self, shape: Shape) -> bool
-        ensures { result ≡ has_room (seen M.Memory.meaning self.now) shape }
+        ensures { result ≡ has_room (ijvm_in M.Memory.meaning self.now) shape }
     {
         self.new_sp(shape.stack) < u64::from(self.datapath.memory.size())
     }
 
-    // There is a next PC, and it lies in code.
+    // The check for 37: there is a next PC, and it lies in code.
     fn lands(&self, next: Option<u64>) -> bool
-        ensures { result ≡ lands_in (seen M.Memory.meaning self.now) next }
+        ensures { result ≡ lands_in (ijvm_in M.Memory.meaning self.now) next }
     {
         match next {
             None => false,
@@ -108,9 +108,9 @@ impl<M: Memory> Shown<'_, M> {
     // The checks of a row, in the order in which they are made.
     #[inline(always)]
     fn allowed(&self, shape: Shape) -> Result<(), StepRefusal>
-        ensures { result ≡ allowed_of (seen M.Memory.meaning self.now) shape }
+        ensures { result ≡ allowed_of (ijvm_in M.Memory.meaning self.now) shape }
     {
-        check(self.whole(shape), StepRefusal::OutsideCode)?;
+        check(self.lies_in_code(shape), StepRefusal::OutsideCode)?;
         check(self.in_pool(shape), StepRefusal::NotInPool)?;
         check(self.callable(shape.way), StepRefusal::WrongMethod)?;
         check(
@@ -126,15 +126,15 @@ impl<M: Memory> Shown<'_, M> {
     // A case, if its checks pass.
     #[inline(always)]
     fn checked(&self, case: Case) -> Result<Case, StepRefusal>
-        ensures { result ≡ unless_refused case (allowed_of (seen M.Memory.meaning self.now) (shape_of case)) }
+        ensures { result ≡ unless_refused case (allowed_of (ijvm_in M.Memory.meaning self.now) (shape_of case)) }
     {
         self.allowed(Shape::of(case))?;
         Ok(case)
     }
 
-    // The same by a call for each case: in each the row is a constant, and the checks that it does not ask for fall away.
+    // A case, if its checks pass, by a call for each case: in each call the row is a constant, so the compiler leaves out the checks that pass for every state.
     fn checked_apart(&self, case: Case) -> Result<Case, StepRefusal>
-        ensures { result ≡ unless_refused case (allowed_of (seen M.Memory.meaning self.now) (shape_of case)) }
+        ensures { result ≡ unless_refused case (allowed_of (ijvm_in M.Memory.meaning self.now) (shape_of case)) }
     {
         macro_rules! apart {
             ($($name:ident)*) => {
@@ -149,10 +149,10 @@ impl<M: Memory> Shown<'_, M> {
         )
     }
 
-    // The case that a step performs, or the first check that refuses it.
+    /// The answer of a step: the case that it performs, or the refusal of the first check that fails, 30 to 38. Nothing is performed by this call (docs/instruction-machine.md).
     #[tactic(auto, unfolding(instructions::specs::Step::step_of))]
     pub fn step(&self) -> Result<Case, StepRefusal>
-        ensures { result ≡ step_of (seen M.Memory.meaning self.now) }
+        ensures { result ≡ step_of (ijvm_in M.Memory.meaning self.now) }
     {
         let case = self.case(Opcode::of(self.byte(self.pc())))?;
         self.checked_apart(case)

@@ -5,11 +5,11 @@ use Rattle.control.specs.declared.alu_table.Function.{Function}
 use Rattle.control.specs.declared.alu_table.Function.TheVariants.{A, B, NotA, NotB, APlusB, APlusBPlus1, APlus1, BPlus1, BMinusA, BMinus1, MinusA, AAndB, AOrB, Zero, One, MinusOne}
 use Rattle.control.specs.Alu.{complement}
 
--- A row of the table: the six signals, and the function performed.
+-- A row of the published table: the six signals, and the function performed.
 pub data Row : Type 0 where
   row : (F0 F1 ENA ENB INVA INC : ℕ) → Function → Row
 
--- The sixteen rows, in the published order.
+-- The sixteen rows of the published table, in its order.
 abbrev pub table : List Row
 table =
     -- F0 F1 ENA ENB INVA INC
@@ -31,24 +31,24 @@ table =
     (row 1 1 0 0 1 0 MinusOne ∷
     [])))))))))))))))
 
--- Six signals as a number, from the high end.
+-- Six ALU signals as one number, from the high end.
 abbrev pub signals : (F0 F1 ENA ENB INVA INC : ℕ) → ℕ
 signals f0 f1 ena enb inva inc = ((((f0 * 2 + f1) * 2 + ena) * 2 + enb) * 2 + inva) * 2 + inc
 
--- A flag as a digit.
+-- A flag as a digit: 1 where it is on, else 0.
 abbrev pub digit : Bool → ℕ
 digit flag = cond flag 1 0
 
--- The six ALU signals of a control word.
+-- The six ALU signals of a control word, as one number.
 abbrev pub signals_of : ControlWord → ℕ
 signals_of w = signals (digit w.f0) (digit w.f1) (digit w.ena) (digit w.enb) (digit w.inva) (digit w.inc)
 
--- The function of the row with these signals, if there is such a row.
+-- The function of the first row that has these signals, if there is such a row.
 abbrev pub function_in : List Row → ℕ → Option Function
 function_in [] s = None
 function_in (row f0 f1 ena enb inva inc f ∷ rows) s = cond (s == signals f0 f1 ena enb inva inc) (Some f) (function_in rows s)
 
--- The function of a control word by the table.
+-- The function of a control word by the published table, if its signals stand in a row.
 abbrev pub function_of : ControlWord → Option Function
 function_of w = function_in table (signals_of w)
 

@@ -4,7 +4,7 @@ use Rattle.control.specs.declared.b_bus.Source.{Source}
 use Rattle.control.specs.declared.b_bus.Source.TheVariants.{Mdr, Pc, Mbr, Mbru, Sp, Lv, Cpp, Tos, Opc}
 use Rattle.control.specs.declared.register_file.Registers.{Registers}
 
--- What the code B puts on the bus: nothing where it is 9 or more.
+-- The source that a code B names: none from 9 on.
 abbrev pub source_of : ℕ → Option Source
 source_of b =
     cond (b == 0) (Some Mdr)
@@ -34,7 +34,7 @@ driven_by Cpp r mbr = r.cpp
 driven_by Tos r mbr = r.tos
 driven_by Opc r mbr = r.opc
 
--- The word on the bus: 0 where nothing drives it.
+-- The word on the B bus: 0 where nothing drives it.
 abbrev pub bus_of : Option Source → Registers → ℕ → ℕ
 bus_of None r mbr = 0
 bus_of (Some source) r mbr = driven_by source r mbr

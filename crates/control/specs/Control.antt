@@ -9,7 +9,7 @@ use Rattle.control.specs.Format.{NEXT, JMPC, JAMN, JAMZ, SLL8, SRA1, F0, F1, ENA
 abbrev pub bit_at : ℕ → ℕ → Bool
 bit_at n k = n / 2 ^ k % 2 == 1
 
--- The fields of a number, each at its place.
+-- The fields of a number, each from its bits, as Format names them.
 abbrev pub fields_of : ℕ → ControlWord
 fields_of n = record {
   next = n / 2 ^ NEXT;
@@ -40,7 +40,7 @@ flags_of w =
     ∷ (w.write ∷ (w.read ∷ (w.fetch
     ∷ []))))))))))))))))))))))
 
--- A number with flags written behind it, a bit each.
+-- A number with flags written behind it, in binary, a bit each.
 abbrev pub behind : ℕ → List Bool → ℕ
 behind n [] = n
 behind n (flag ∷ flags) = behind (n * 2 + cond flag 1 0) flags
@@ -49,31 +49,31 @@ behind n (flag ∷ flags) = behind (n * 2 + cond flag 1 0) flags
 unfoldable pub number_of : ControlWord → ℕ
 number_of w = behind w.next (flags_of w) * 2 ^ 4 + w.b
 
--- What both calls refuse of the flags: SLL8 with SRA1, then WRITE with READ.
+-- What decode and encode refuse of the flags: SLL8 with SRA1, then WRITE with READ.
 abbrev pub unclashed : {A : Type 0} → ControlWord → A → Result A ControlRefusal
 unclashed w accepted =
     cond (w.sll8 && w.sra1) (Err TwoShifts)
     (cond (w.write && w.read) (Err TwoAccesses)
     (Ok accepted))
 
--- Decode gives a number's fields. It refuses a number of 2^36 or more, then flags that clash.
+-- What decode answers of a number: its fields. It refuses a number of 2^36 or more, then flags that clash.
 abbrev pub decode_of : ℕ → Result ControlWord ControlRefusal
 decode_of n = cond (nat_le (2 ^ 36) n) (Err TooWide) (unclashed (fields_of n) (fields_of n))
 
--- Encode gives the number of the fields. It refuses NEXT above 511 or B above 15, then flags that clash.
+-- What encode answers of fields: their number. It refuses NEXT above 511 or B above 15, then flags that clash.
 abbrev pub encode_of : ControlWord → Result ℕ ControlRefusal
 encode_of w = cond (nat_lt 511 w.next || nat_lt 15 w.b) (Err TooWide) (unclashed w (number_of w))
 
--- Flags that do not clash.
+-- The flags of a control word do not clash.
 abbrev pub Unclashed : ControlWord → Type 0
 Unclashed w = unclashed w (tt {0}) ≡ Ok (tt {0})
 
--- What decode accepts, encode gives back: the same 36 bits.
+-- Where decode accepts a number, encode gives the same number back from its fields.
 abbrev pub EncodesBack : ℕ → Result ControlWord ControlRefusal → Type 0
 EncodesBack n (Ok w) = encode_of w ≡ Ok n
 EncodesBack n (Err refusal) = Unit {0}
 
--- What encode accepts, decode gives back: the same fields.
+-- Where encode accepts fields, decode gives the same fields back from their number.
 abbrev pub DecodesBack : ControlWord → Result ℕ ControlRefusal → Type 0
 DecodesBack w (Ok n) = decode_of n ≡ Ok w
 DecodesBack w (Err refusal) = Unit {0}

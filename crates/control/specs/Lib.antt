@@ -1,4 +1,3 @@
-pub mod Refusals
 pub mod Format
 pub mod Control
 pub mod Store
@@ -10,3 +9,4 @@ pub mod Masks
 pub mod Slots
 pub mod Straight
 pub mod PreparedWords
+pub mod Refusals

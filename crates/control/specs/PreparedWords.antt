@@ -1,7 +1,7 @@
--- A prepared word: a control word, and beside it what a cycle would else make of it each time.
+-- The control word that a prepared word holds.
 use Rattle.control.specs.declared.control.ControlWord.{ControlWord}
 use Rattle.control.specs.declared.prepared.PreparedWord.{PreparedWord}
 
--- The control word that a prepared word stands for.
+-- The control word that a prepared word stands for; all else in it is what a cycle would make of this word each time.
 abbrev pub word_of : PreparedWord → ControlWord
 word_of p = p.word

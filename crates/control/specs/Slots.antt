@@ -2,11 +2,11 @@
 use Rattle.std.specs.Prelude.{ℕ, Bool, ◌&&◌, ◌||◌, ◌==◌, nat_le, nat_lt}
 use Rattle.control.specs.declared.control.CBits.{CBits}
 
--- Whether the C bus may load a slot: a register's, or the one that nothing reads; not those of MBR and of the codes that drive nothing.
-abbrev pub is_loadable : ℕ → Bool
-is_loadable slot = nat_lt slot 2 || ((nat_le 4 slot && nat_lt slot 9) || (nat_le 16 slot && nat_lt slot 19))
+-- Whether a slot may be written from the C bus: a register's may, and the one that nothing reads; those of MBR and of the codes that drive nothing may not.
+abbrev pub is_writable : ℕ → Bool
+is_writable slot = nat_lt slot 2 || ((nat_le 4 slot && nat_lt slot 9) || (nat_le 16 slot && nat_lt slot 19))
 
--- The C bits of the registers that lie at two slots; 18 stands for none.
+-- The C bits of the registers that lie at two slots. At 18 lies none.
 abbrev pub c_bits_at_slots : (slot other : ℕ) → CBits
 c_bits_at_slots slot other = record {
   h = (slot == 16) || (other == 16);

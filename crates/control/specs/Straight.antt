@@ -2,6 +2,6 @@
 use Rattle.std.specs.Prelude.{Bool, not, ◌||◌}
 use Rattle.control.specs.declared.control.ControlWord.{ControlWord}
 
--- None of the signals JMPC, JAMN, JAMZ, SLL8 and SRA1 is on.
+-- Whether a control word neither shifts nor jumps: none of its signals JMPC, JAMN, JAMZ, SLL8 and SRA1 is on.
 abbrev pub is_straight : ControlWord → Bool
 is_straight w = not (w.jmpc || (w.jamn || (w.jamz || (w.sll8 || w.sra1))))

@@ -4,24 +4,40 @@ ghost use Rattle.control.specs.AluTable.{table, signals_of, function_in, functio
 
 use crate::ControlWord;
 
-// What the ALU performs; A is H and B the bus.
+/// A function of the published ALU table, which has sixteen rows. A is H and B is the B bus; sums and differences are modulo 2^32 (docs/control-words.md).
 #[derive(Clone, Copy, Debug, PartialEq, Eq)]
 pub enum Function {
+    /// A.
     A,
+    /// B.
     B,
+    /// NOT A.
     NotA,
+    /// NOT B.
     NotB,
+    /// A + B.
     APlusB,
+    /// A + B + 1.
     APlusBPlus1,
+    /// A + 1.
     APlus1,
+    /// B + 1.
     BPlus1,
+    /// B - A.
     BMinusA,
+    /// B - 1.
     BMinus1,
+    /// -A.
     MinusA,
+    /// A AND B.
     AAndB,
+    /// A OR B.
     AOrB,
+    /// 0.
     Zero,
+    /// 1.
     One,
+    /// -1.
     MinusOne,
 }
 
@@ -61,7 +77,7 @@ fn row(signals: u8) -> Option<Function>
 }
 
 impl Function {
-    // The function of a control word, where its signals stand in the table; that they do not is no error, so this is no TryFrom.
+    /// The function of a control word by the table, and none where its six signals stand in no row (docs/control-words.md).
     pub fn of(word: &ControlWord) -> Option<Function>
         ensures { result ≡ function_of word.now }
     {

@@ -5,7 +5,7 @@ ghost use Rattle.control.specs.AluTable.{ByTheTable};
 
 use crate::ControlWord;
 
-// The left input: H, gated by ENA and turned by INVA.
+// The left input: H, gated by ENA and then complemented by INVA.
 fn left(word: &ControlWord, h: u32) -> u32
     ensures { result ≡ left_of word.now h }
 {
@@ -17,7 +17,7 @@ fn left(word: &ControlWord, h: u32) -> u32
     }
 }
 
-// What F0 and F1 choose.
+// What F0 and F1 make of the two inputs.
 pub(crate) fn chosen(f0: bool, f1: bool, a: u32, b: u32, inc: u32) -> u32
     ensures { result ≡ chosen_of f0 f1 a b inc }
 {
@@ -45,7 +45,7 @@ pub(crate) fn with_flags(value: u32) -> (u32, bool, bool)
     (value, value.cast_signed() < 0, value == 0)
 }
 
-// The result of the ALU, N and Z, from H and the bus: it is a rule of the machine that they leave the ALU together, as one answer of three parts.
+/// What the ALU answers of H and the bus: its result, N and Z, both taken before the shifter (docs/control-words.md).
 pub fn alu(word: &ControlWord, h: u32, bus: u32) -> (u32, bool, bool)
     ensures value { result ≡ alu_of word.now h bus }
     ensures table { ByTheTable word.now h bus result.0 }
@@ -53,7 +53,7 @@ pub fn alu(word: &ControlWord, h: u32, bus: u32) -> (u32, bool, bool)
     with_flags(result(word, h, bus))
 }
 
-// What the shifter makes of the result.
+/// What the shifter makes of the ALU's result: the value on the C bus (docs/control-words.md).
 pub fn shift(word: &ControlWord, value: u32) -> u32
     ensures { result ≡ shift_of word.now value }
 {

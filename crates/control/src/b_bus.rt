@@ -4,22 +4,31 @@ ghost use Rattle.control.specs.Bus.{source_of, driven_by, bus_of};
 
 use crate::Registers;
 
-// What drives the bus.
+/// What drives the B bus (docs/control-words.md).
 #[derive(Clone, Copy, Debug, PartialEq, Eq)]
 pub enum Source {
+    /// Code 0: MDR.
     Mdr,
+    /// Code 1: PC.
     Pc,
+    /// Code 2: MBR with its sign extended.
     Mbr,
+    /// Code 3: MBR filled with zeros.
     Mbru,
+    /// Code 4: SP.
     Sp,
+    /// Code 5: LV.
     Lv,
+    /// Code 6: CPP.
     Cpp,
+    /// Code 7: TOS.
     Tos,
+    /// Code 8: OPC.
     Opc,
 }
 
 impl Source {
-    // The source that a code B names; 9 and above name none, which is no error, so this is no TryFrom.
+    /// The source that a code B names, and none from 9 on (docs/control-words.md).
     pub fn of(b: u8) -> Option<Source>
         ensures { result ≡ source_of b }
     {
@@ -37,7 +46,7 @@ impl Source {
         }
     }
 
-    // The word that a source puts on the bus. MBR stands beside the registers: it has 8 bits, and the C bus does not load it.
+    // The word that a source puts on the bus. MBR stands beside the registers: it has 8 bits, and is not written from the C bus.
     fn word(self, registers: &Registers, mbr: u8) -> u32
         ensures { result ≡ driven_by self registers.now mbr }
     {
@@ -55,7 +64,7 @@ impl Source {
     }
 }
 
-// The word on the bus: 0 where nothing drives it.
+/// The word on the B bus, and 0 where nothing drives it. As MBR the byte comes with its sign extended, as MBRU filled with zeros (docs/control-words.md).
 pub fn bus(source: Option<Source>, registers: &Registers, mbr: u8) -> u32
     ensures { result ≡ bus_of source registers.now mbr }
 {

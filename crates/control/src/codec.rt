@@ -12,6 +12,7 @@ fn flag(number: u64, bit: u32) -> bool
     (number >> bit) % 2 == 1
 }
 
+// The C bits of a number.
 fn c_bits(number: u64) -> CBits
     ensures { result ≡ (fields_of number).c }
 {
@@ -28,8 +29,7 @@ fn c_bits(number: u64) -> CBits
     }
 }
 
-// The fields of a number of 36 bits, whether or not its flags clash. The casts are proved to lose nothing; a try_from would answer a Result that is always Ok.
-// NEXT's bound is a clause, here and below, and no fact of ControlWord, since encode takes words of any NEXT.
+// The fields of a number of 36 bits, whether or not its flags clash. The casts are proved to lose nothing.
 pub(crate) fn fields(number: u64) -> ControlWord
     requires { number < 2 ^ 36 }
     ensures value { result ≡ fields_of number }
@@ -58,7 +58,7 @@ pub(crate) fn fields(number: u64) -> ControlWord
     }
 }
 
-// Refuses flags that clash.
+// Refuses flags that clash: SLL8 with SRA1, then WRITE with READ.
 fn check_flags(word: &ControlWord) -> Result<(), ControlRefusal>
     ensures { result ≡ unclashed word.now tt }
 {
@@ -71,8 +71,7 @@ fn check_flags(word: &ControlWord) -> Result<(), ControlRefusal>
     Ok(())
 }
 
-// The fields of a number; refused (7) for 2^36 or more, (8) for SLL8 with SRA1, (9) for WRITE with READ, in this order.
-// No TryFrom, but a call of its own: its contract also promises the way back, and so does encode's.
+/// The fields of a control word, of its number. Refused with 7 where the number is 2^36 or more, with 8 where SLL8 stands with SRA1, with 9 where WRITE stands with READ, in this order. Of what is accepted, `encode` gives the same number back (docs/control-words.md).
 pub fn decode(number: u64) -> Result<ControlWord, ControlRefusal>
     ensures value { result ≡ decode_of number }
     ensures back { EncodesBack number result }
@@ -96,7 +95,7 @@ fn flags(w: &ControlWord) -> [bool; 23]
     ]
 }
 
-// NEXT with the flags behind it. A loop and no fold: that was tried, and of a fold's sum it is not proved that it fits 64 bits.
+// NEXT with the flags behind it, a bit each.
 fn joined(next: u16, flags: &[bool; 23]) -> u64
     requires { next < 512 }
     ensures value { result ≡ behind next flags.now }
@@ -118,7 +117,7 @@ fn number(word: &ControlWord) -> u64
     joined(word.next, &flags(word)) * 16 + u64::from(word.b)
 }
 
-// The number of the fields; refused (7) for NEXT above 511 or B above 15, (8) for SLL8 with SRA1, (9) for WRITE with READ, in this order. No TryFrom, as decode.
+/// The number of a control word, of its fields. Refused with 7 where NEXT is above 511 or B above 15, with 8 where SLL8 stands with SRA1, with 9 where WRITE stands with READ, in this order. Of what is accepted, `decode` gives the same fields back (docs/control-words.md).
 pub fn encode(word: &ControlWord) -> Result<u64, ControlRefusal>
     ensures value { result ≡ encode_of word.now }
     ensures back { DecodesBack word.now result }

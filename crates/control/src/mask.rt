@@ -1,7 +1,8 @@
-// A flag as a mask of 32 bits, so that a word is gated or chosen without a branch.
+// Masks.
 ghost use Rattle.std.specs.Prelude.{◌≡◌, if◌then◌else◌};
 ghost use Rattle.control.specs.Masks.{mask, flag_of};
 
+// A flag as a mask of 32 bits, so that a word is gated or chosen without a branch.
 #[derive(Clone, Copy)]
 pub(crate) struct Mask {
     pub(crate) bits: u32,

@@ -1,8 +1,8 @@
-// Control words are prepared, and what the ALU makes of a prepared word.
+// How a control word is prepared, and what the ALU makes of it then.
 ghost use Rattle.std.specs.Prelude.{◌≡◌, ◌^◌, ◌<◌, ◌||◌, ◌==◌, true, false};
 ghost use Rattle.control.specs.Alu.{left_of, right_of, result_of, alu_of};
 ghost use Rattle.control.specs.AluTable.{ByTheTable};
-ghost use Rattle.control.specs.Slots.{is_loadable, c_bits_at_slots};
+ghost use Rattle.control.specs.Slots.{is_writable, c_bits_at_slots};
 ghost use Rattle.control.specs.Straight.{is_straight};
 ghost use Rattle.control.specs.PreparedWords.{word_of};
 
@@ -17,22 +17,22 @@ const MAR: u8 = 17;
 
 const NOWHERE: u8 = 18;
 
-// Two slots that are loaded.
+// Two slots that are written.
 #[derive(Clone, Copy)]
-struct LoadedSlots {
+struct WrittenSlots {
     slot: u8,
     other: u8,
-    ghost loadable: { is_loadable slot ≡ true },
-    ghost other_loadable: { is_loadable other ≡ true },
+    ghost writable: { is_writable slot ≡ true },
+    ghost other_writable: { is_writable other ≡ true },
 }
 
-impl LoadedSlots {
-    // Pushes a slot that is loaded, and forgets the older of the two.
-    fn pushed(self, loaded: bool, slot: u8) -> LoadedSlots
-        requires { is_loadable slot ≡ true }
+impl WrittenSlots {
+    // Pushes a slot that is written, and forgets the older of the two.
+    fn pushed(self, written: bool, slot: u8) -> WrittenSlots
+        requires { is_writable slot ≡ true }
     {
-        if loaded {
-            LoadedSlots {
+        if written {
+            WrittenSlots {
                 slot,
                 other: self.slot,
             }
@@ -45,26 +45,26 @@ impl LoadedSlots {
     fn c_bits(self) -> CBits
         ensures { result ≡ c_bits_at_slots self.slot self.other }
     {
-        let loads = |slot: u8| -> bool
+        let writes = |slot: u8| -> bool
             ensures { result ≡ ((self.slot == slot) || (self.other == slot)) }
         { self.slot == slot || self.other == slot };
         CBits {
-            h: loads(H),
-            opc: loads(8),
-            tos: loads(7),
-            cpp: loads(6),
-            lv: loads(5),
-            sp: loads(4),
-            pc: loads(1),
-            mdr: loads(0),
-            mar: loads(MAR),
+            h: writes(H),
+            opc: writes(8),
+            tos: writes(7),
+            cpp: writes(6),
+            lv: writes(5),
+            sp: writes(4),
+            pc: writes(1),
+            mdr: writes(0),
+            mar: writes(MAR),
         }
     }
 }
 
-// The last two slots that C bits load. That these are all of them is compared afterwards.
-fn last_two(c: &CBits) -> LoadedSlots {
-    let none = LoadedSlots {
+// The last two slots that C bits write. Whether these are all of them is compared afterwards.
+fn last_two(c: &CBits) -> WrittenSlots {
+    let none = WrittenSlots {
         slot: NOWHERE,
         other: NOWHERE,
     };
@@ -79,8 +79,8 @@ fn last_two(c: &CBits) -> LoadedSlots {
         .pushed(c.mar, MAR)
 }
 
-// Whether C bits load more than these two.
-fn loads_more(slots: LoadedSlots, c: &CBits) -> bool
+// Whether C bits write more than these two slots.
+fn writes_more(slots: WrittenSlots, c: &CBits) -> bool
     ensures { result ≡ false → c.now ≡ c_bits_at_slots slots.slot slots.other }
 {
     slots.c_bits() != *c
@@ -105,7 +105,7 @@ impl PreparedWord {
             word,
             slot: slots.slot,
             other: slots.other,
-            more: loads_more(slots, &word.c),
+            more: writes_more(slots, &word.c),
             straight: is_straight(&word),
             idle: !(word.write || word.read || word.fetch),
             ena: Mask::of(word.ena),
@@ -115,7 +115,7 @@ impl PreparedWord {
         }
     }
 
-    // The left input: H, gated by ENA and turned by INVA.
+    // The left input: H, gated by ENA and then complemented by INVA.
     fn left(&self, h: u32) -> u32
         ensures { result ≡ left_of (word_of self.now) h }
     {
@@ -138,7 +138,7 @@ impl PreparedWord {
         chosen(self.word.f0, self.word.f1, left, right, self.inc)
     }
 
-    // The result of the ALU, N and Z, from H and the bus.
+    /// What the ALU answers of H and the bus: its result, N and Z, as `alu` does of the same control word (docs/control-words.md).
     #[tactic(auto, using(crate::proofs::Table::by_the_table))]
     pub fn alu(&self, h: u32, bus: u32) -> (u32, bool, bool)
         ensures value { result ≡ alu_of (word_of self.now) h bus }

@@ -5,28 +5,28 @@ ghost use Rattle.control.specs.Refusals.{control_number, control_reason, control
 use std::error::Error;
 use std::fmt;
 
-// Why decode or encode refuses.
+/// Why decode or encode refuses (docs/refusals.md).
 #[derive(Clone, Copy, Debug, PartialEq, Eq)]
 pub enum ControlRefusal {
-    // decode: a number of 2^36 or more; encode: NEXT above 511 or B above 15
+    /// 7: the number is 2^36 or more, for decode; NEXT is above 511 or B above 15, for encode.
     TooWide = 7,
-    // SLL8 with SRA1
+    /// 8: SLL8 stands with SRA1.
     TwoShifts = 8,
-    // WRITE with READ
+    /// 9: WRITE stands with READ.
     TwoAccesses = 9,
 }
 
-// Why a control store is not filled.
+/// Why a control store is not filled (docs/refusals.md).
 #[derive(Clone, Copy, Debug, PartialEq, Eq)]
 pub enum FillRefusal {
-    // another count than 512
+    /// 10: the count is not 512.
     WrongCount,
-    // the first address whose number decode refuses, and why
+    /// 7, 8 or 9: decode refuses the number at this address of the store, the first such address, for this cause.
     WrongWord { address: u16, cause: ControlRefusal },
 }
 
 impl ControlRefusal {
-    // The number of the refusal: its discriminant. A cast asks for the enum's own type, so each enum has this function.
+    /// The number of the refusal: its discriminant (docs/refusals.md).
     pub fn number(self) -> u32
         ensures { result ≡ control_number self }
     {
@@ -46,7 +46,7 @@ impl ControlRefusal {
 }
 
 impl FillRefusal {
-    // The number of the refusal: a match, since a case with fields has no discriminant to cast.
+    /// The number of the refusal: 10, or that of decode's refusal (docs/refusals.md).
     pub fn number(self) -> u32
         ensures { result ≡ fill_number self }
     {
@@ -56,7 +56,7 @@ impl FillRefusal {
         }
     }
 
-    // What the refusal carries: the address of the number that decode refuses.
+    /// What the refusal carries: the address of the number that decode refuses, and none where the count is refused (docs/refusals.md).
     pub fn detail(self) -> Option<u16>
         ensures { result ≡ fill_detail self }
     {
@@ -67,7 +67,7 @@ impl FillRefusal {
     }
 }
 
-// As that of every refusal: a Display for all types of a trait is not to be had.
+// "refused", the number, and the reason.
 impl fmt::Display for ControlRefusal {
     ghost output = { λ refusal. Some (control_text refusal) };
 
@@ -76,6 +76,7 @@ impl fmt::Display for ControlRefusal {
     }
 }
 
+// Of the count: "refused", the number, and the reason. Of a number: the text of decode's refusal, and the address.
 impl fmt::Display for FillRefusal {
     ghost output = { λ refusal. Some (fill_text refusal) };
 

@@ -1,26 +1,29 @@
 // The control store.
-ghost use Rattle.std.specs.Prelude.{◌≡◌, ◌%◌, ◌^◌, ◌<◌, length, map, replicate, Ok, slice_index};
-ghost use Rattle.control.specs.Control.{fields_of};
+ghost use Rattle.std.specs.Prelude.{◌≡◌, ◌%◌, ◌^◌, ◌<◌, length, map, replicate, IfSome, IsOk, Ok, slice_index};
+ghost use Rattle.control.specs.Control.{fields_of, decode_of};
 ghost use Rattle.control.specs.PreparedWords.{word_of};
 ghost use Rattle.control.specs.Store.{AllAccepted, first_refused, fill_of, filled_of, number_at};
 
 use crate::codec::fields;
 use crate::{ControlWord, FillRefusal, PreparedWord, decode};
 
-// 512 control words by their numbers, none of which decode refuses, and beside them the same words prepared. No impl Model: callers would see a list, and not these facts.
+/// The control store: 512 control words by their numbers, none of which decode refuses, at the addresses 0 to 511. Each word stands prepared beside its number (docs/control-words.md).
 #[derive(Drop)]
 pub struct ControlStore {
     words: [PreparedWord; 512],
     numbers: [u64; 512],
     ghost accepted: { AllAccepted numbers },
-    // the word at each place is that of the number there
+    // the word at each address is that of the number there
     ghost prepared: { map word_of words ≡ map fields_of numbers },
 }
 
 impl ControlStore {
-    // A store of zeros.
+    ghost use Rattle.control.specs.Numbers.{numbers_in};
+
+    /// A store of 512 zeros (docs/control-words.md).
     pub fn new() -> ControlStore
-        ensures { result.numbers ≡ replicate 512 0 }
+        ensures numbers { numbers_in result ≡ replicate 512 0 }
+        ensures accepted { AllAccepted (numbers_in result) }
     {
         ControlStore {
             words: zero_words(),
@@ -28,10 +31,11 @@ impl ControlStore {
         }
     }
 
-    // Puts 512 numbers into the store; refused (10) for another count, else with decode's case and the first address that it refuses.
+    /// Puts 512 numbers into the store. Refused with 10 where the count is another, then as decode refuses the number at the first address whose number it refuses; then the store stays as it is (docs/control-words.md).
     pub fn fill(&mut self, numbers: &[u64]) -> Result<(), FillRefusal>
         ensures answer { result ≡ fill_of numbers.now }
-        ensures after { self.new.numbers ≡ filled_of self.old.numbers numbers.now }
+        ensures after { numbers_in self.new ≡ filled_of (numbers_in self.old) numbers.now }
+        ensures accepted { AllAccepted (numbers_in self.new) }
     {
         let numbers = <[u64; 512]>::try_from(numbers).map_err(|_| FillRefusal::WrongCount)?;
         check_numbers(&numbers)?;
@@ -40,26 +44,28 @@ impl ControlStore {
         Ok(())
     }
 
-    // The number at an address; none above 511.
+    /// The number at an address, which decode accepts, and none above 511 (docs/control-words.md).
     pub fn number(&self, address: u16) -> Option<u64>
-        ensures { result ≡ number_at self.now.numbers address }
+        ensures value { result ≡ number_at (numbers_in self.now) address }
+        ensures accepted { IfSome result (λ number. IsOk (decode_of number)) }
     {
         self.numbers.get(usize::from(address)).copied()
     }
 
-    // The control word at an address, and the word of the number 0 above 511. NEXT's bound is a clause and no fact of ControlWord, since encode takes words of any NEXT.
+    /// The control word at an address: the fields of the number there, and those of the number 0 above 511 (docs/control-words.md).
     #[tactic(auto, using(crate::proofs::Accepted::held))]
     pub fn word(&self, address: u16) -> ControlWord
-        ensures value { result ≡ fields_of (slice_index self.now.numbers address) }
+        ensures value { result ≡ fields_of (slice_index (numbers_in self.now) address) }
+        ensures accepted { decode_of (slice_index (numbers_in self.now) address) ≡ Ok result }
         ensures within { result.next < 2 ^ 9 }
     {
         fields(self.number(address).unwrap_or(0))
     }
 
-    // The control word at an address, prepared. Of an address nine bits count, as MPC has nine.
+    /// The control word at an address, prepared. Of the address nine bits count, as MPC has nine (docs/control-words.md).
     #[tactic(auto, using(crate::proofs::Preparation::prepared_at))]
     pub fn prepared(&self, address: u16) -> &PreparedWord
-        ensures { word_of result.now ≡ fields_of (slice_index self.now.numbers (address % 512)) }
+        ensures { word_of result.now ≡ fields_of (slice_index (numbers_in self.now) (address % 512)) }
     {
         &self.words[usize::from(address % 512)]
     }
@@ -108,7 +114,7 @@ fn check_numbers(numbers: &[u64; 512]) -> Result<(), FillRefusal>
     ensures accepted { result ≡ Ok tt → AllAccepted numbers.now }
 {
     for (i, &number) in numbers.iter().enumerate() {
-        // A cast and no zip with 0..: that was tried, and leaves the loop's invariant without an index. There are 512 numbers, so nothing is lost.
+        // there are 512 numbers, so the cast loses nothing
         let address = i as u16;
         decode(number).map_err(|cause| FillRefusal::WrongWord { address, cause })?;
     }

@@ -24,6 +24,6 @@ same left right x false false true sll8 sra1 h = cc
 same left right x false true jamz sll8 sra1 h = cc
 same left right x true jamn jamz sll8 sra1 h = cc
 
--- and the result goes to the C bus as it is
+-- the result goes to the C bus as it is
 pub unshifted : (w : ControlWord) (x : ℕ) → is_straight w ≡ true → x ≡ shift_of w x
 unshifted w x h = same _ _ x w.jmpc w.jamn w.jamz w.sll8 w.sra1 h

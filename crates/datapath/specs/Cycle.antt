@@ -1,4 +1,4 @@
--- The rule of one cycle, in its six points.
+-- The rule of one cycle, in six points.
 use Rattle.std.specs.Prelude.{ℕ, ◌+◌, ◌-◌, ◌*◌, ◌/◌, ◌%◌, ◌^◌, Bool, cond, ◌&&◌, ◌||◌, List, Some, None, Ok, Err, Option, Result, ◌==◌, bit_or, slice_index}
 use Rattle.memory.specs.Meaning.{Meaning, read_of, write_of, written_of}
 use Rattle.memory.specs.declared.access_refusal.AccessRefusal.{AccessRefusal}
@@ -15,20 +15,20 @@ use Rattle.control.specs.Control.{fields_of}
 use Rattle.control.specs.Bus.{source_of, bus_of}
 use Rattle.control.specs.Alu.{result_of, negative, shift_of}
 
--- A machine: what its memory means, and its state.
+-- A Mic-1: what its memory means, and its state.
 pub record Micro : Type 0 where
   pub memory : Meaning
   pub state : State
 
--- Point 1: the control word at MPC; the ALU's result from H and the bus; what the shifter puts on the C bus.
+-- Point 1: the control word at MPC.
 abbrev pub word_in : List ℕ → State → ControlWord
 word_in store s = fields_of (slice_index store s.mpc)
 
--- The ALU's result, from H and the bus.
+-- Point 1: the ALU's result in a cycle of the control word w, from H and the bus.
 abbrev pub result_in : ControlWord → State → ℕ
 result_in w s = result_of w s.registers.h (bus_of (source_of w.b) s.registers s.mbr)
 
--- The value on the C bus.
+-- Point 1: the value on the C bus in a cycle of the control word w, which is what the shifter makes of the ALU's result.
 abbrev pub c_bus_in : ControlWord → State → ℕ
 c_bus_in w s = shift_of w (result_in w s)
 
@@ -36,54 +36,54 @@ c_bus_in w s = shift_of w (result_in w s)
 abbrev pub successor_of : ControlWord → (mbr : ℕ) → (n z : Bool) → ℕ
 successor_of w mbr n z = bit_or (bit_or w.next (cond w.jmpc mbr 0)) (cond ((w.jamn && n) || (w.jamz && z)) (2 ^ 8) 0)
 
--- The same, from the flags of the result.
+-- Point 2: the next MPC in a cycle of the control word w, where N and Z are of the ALU's result.
 abbrev pub successor_in : ControlWord → State → ℕ
 successor_in w s = successor_of w s.mbr (negative (result_in w s)) (result_in w s == 0)
 
--- Point 3: what is under way is completed, the fetch first, then the read or write. A refusal of the memory becomes a fault, with the port, the word address and the MPC that began the access.
-abbrev pub placed : {A : Type 0} → Result A AccessRefusal → (address : ℕ) → Port → (mpc : ℕ) → Result A Fault
-placed (Ok answer) address port mpc = Ok answer
-placed (Err cause) address port mpc = Err (record { cause = cause; address = address; port = port; mpc = mpc })
+-- Point 3: the memory's refusal of an access becomes a fault, with the word address, the port and the MPC that began the access.
+abbrev pub as_fault : {A : Type 0} → Result A AccessRefusal → (address : ℕ) → Port → (mpc : ℕ) → Result A Fault
+as_fault (Ok answer) address port mpc = Ok answer
+as_fault (Err cause) address port mpc = Err (record { cause = cause; address = address; port = port; mpc = mpc })
 
 -- The byte at a byte address, in its word: the most significant byte has the lowest address.
 abbrev pub byte_in : (word address : ℕ) → ℕ
 byte_in word address = word / 2 ^ (8 * (3 - address % 4)) % 2 ^ 8
 
--- What arrives: the byte of the word that a fetch reads,
+-- What arrives of a fetch: of the word that it reads, the byte at its byte address.
 abbrev pub byte_arrives : ℕ → Result ℕ Fault → Result (Option ℕ) Fault
 byte_arrives address (Ok word) = Ok (Some (byte_in word address))
 byte_arrives address (Err fault) = Err fault
 
--- the word that is read,
+-- What arrives of a read: the word that it reads.
 abbrev pub word_arrives : Result ℕ Fault → Result (Option ℕ) Fault
 word_arrives (Ok word) = Ok (Some word)
 word_arrives (Err fault) = Err fault
 
--- and nothing where a word is written.
+-- What arrives of a write: nothing.
 abbrev pub nothing_arrives : Result (Unit {0}) Fault → Result (Option ℕ) Fault
 nothing_arrives (Ok _) = Ok None
 nothing_arrives (Err fault) = Err fault
 
--- The fetch has a byte address: it reads the word in which the byte lies.
+-- Point 3: what arrives of the fetch under way, if there is one. It has a byte address, and reads the word in which that byte lies.
 abbrev pub fetched_of : Meaning → Option FetchAccess → Result (Option ℕ) Fault
 fetched_of m None = Ok None
-fetched_of m (Some f) = byte_arrives f.address (placed (read_of m (f.address / 4)) (f.address / 4) FetchPort f.mpc)
+fetched_of m (Some f) = byte_arrives f.address (as_fault (read_of m (f.address / 4)) (f.address / 4) FetchPort f.mpc)
 
--- The read or write has a word address.
+-- Point 3: what arrives of the read or write under way, if there is one. It has a word address.
 abbrev pub accessed_of : Meaning → Option DataAccess → Result (Option ℕ) Fault
 accessed_of m None = Ok None
-accessed_of m (Some (Reading address mpc)) = word_arrives (placed (read_of m address) address ReadPort mpc)
-accessed_of m (Some (Writing address mpc word)) = nothing_arrives (placed (write_of m address) address WritePort mpc)
+accessed_of m (Some (Reading address mpc)) = word_arrives (as_fault (read_of m address) address ReadPort mpc)
+accessed_of m (Some (Writing address mpc word)) = nothing_arrives (as_fault (write_of m address) address WritePort mpc)
 
--- The memory after it.
+-- Point 3: the memory after the read or write under way, if there is one. A write is done.
 abbrev pub completed_of : Meaning → Option DataAccess → Meaning
 completed_of m None = m
 completed_of m (Some (Reading address mpc)) = m
 completed_of m (Some (Writing address mpc word)) = written_of m address word
 
--- Point 4: the C registers are loaded; then an arriving word goes into MDR and an arriving byte into MBR.
-abbrev pub loaded_of : ControlWord → Registers → ℕ → Registers
-loaded_of w r v = record {
+-- Point 4, first: the registers whose C bits are set are written from the C bus.
+abbrev pub written_from_c_bus : ControlWord → Registers → ℕ → Registers
+written_from_c_bus w r v = record {
   h = cond w.c.h v r.h;
   opc = cond w.c.opc v r.opc;
   tos = cond w.c.tos v r.tos;
@@ -95,12 +95,12 @@ loaded_of w r v = record {
   mar = cond w.c.mar v r.mar;
 }
 
--- What arrives, else what is held.
+-- What arrives, or what is held where nothing arrives.
 abbrev pub arriving : Option ℕ → ℕ → ℕ
 arriving None held = held
 arriving (Some new) held = new
 
--- The registers with an arriving word in MDR.
+-- The registers with an arriving word in MDR, if one arrives.
 abbrev pub arrived_of : Registers → Option ℕ → Registers
 arrived_of r word = record {
   h = r.h;
@@ -114,15 +114,15 @@ arrived_of r word = record {
   mar = r.mar;
 }
 
--- The registers after the cycle: loaded from the C bus, then with what arrives.
+-- Point 4: the registers after a cycle of the control word w, written from the C bus, then with an arriving word in MDR.
 abbrev pub registers_of : ControlWord → State → Option ℕ → Registers
-registers_of w s word = arrived_of (loaded_of w s.registers (c_bus_in w s)) word
+registers_of w s word = arrived_of (written_from_c_bus w s.registers (c_bus_in w s)) word
 
--- Point 5: WRITE, READ and FETCH begin accesses, with the new MAR, MDR and PC.
+-- Point 5: WRITE or READ begins an access, with the new MAR and MDR.
 abbrev pub begun_data : ControlWord → Registers → ℕ → Option DataAccess
 begun_data w r mpc = cond w.write (Some (Writing r.mar mpc r.mdr)) (cond w.read (Some (Reading r.mar mpc)) None)
 
--- The fetch that begins, at the byte address in PC.
+-- Point 5: FETCH begins a fetch, with the new PC as its byte address.
 abbrev pub begun_fetch : ControlWord → Registers → ℕ → Option FetchAccess
 begun_fetch w r mpc = cond w.fetch (Some (record { address = r.pc; mpc = mpc })) None
 
@@ -137,26 +137,26 @@ advanced_of w s byte word = record {
   fetch = begun_fetch w (registers_of w s word) s.mpc;
 }
 
--- One cycle: the machine after it, or the fault of an access that the memory refuses.
+-- One cycle of the control word w, by what arrives of the read or write: the Mic-1 after the cycle, or the fault.
 abbrev pub data_then : ControlWord → Micro → Option ℕ → Result (Option ℕ) Fault → Result Micro Fault
 data_then w m byte (Ok word) = Ok (record { memory = completed_of m.memory m.state.access; state = advanced_of w m.state byte word })
 data_then w m byte (Err fault) = Err fault
 
--- The fetch comes before the read or write.
+-- One cycle of the control word w, by what arrives of the fetch: what the read or write then gives, or the fault. So the fetch comes before the read or write.
 abbrev pub fetch_then : ControlWord → Micro → Result (Option ℕ) Fault → Result Micro Fault
 fetch_then w m (Ok byte) = data_then w m byte (accessed_of m.memory m.state.access)
 fetch_then w m (Err fault) = Err fault
 
--- One cycle of a machine by a control store.
+-- One cycle of a Mic-1 by a control store: the Mic-1 after it, or the fault of an access that the memory refuses.
 abbrev pub cycle_of : List ℕ → Micro → Result Micro Fault
 cycle_of store m = fetch_then (word_in store m.state) m (fetched_of m.memory m.state.fetch)
 
--- What a cycle answers, and the machine after it: a refused cycle changes nothing.
+-- What a cycle answers, by what it gives: nothing, or the fault.
 abbrev pub answer_of : Result Micro Fault → Result (Unit {0}) Fault
 answer_of (Ok _) = Ok tt
 answer_of (Err fault) = Err fault
 
--- The machine after it.
+-- The Mic-1 after a cycle, by what the cycle gives: a refused cycle changes nothing.
 abbrev pub after_of : Micro → Result Micro Fault → Micro
 after_of m (Ok n) = n
 after_of m (Err fault) = m

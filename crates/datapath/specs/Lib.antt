@@ -1,5 +1,5 @@
-pub mod Refusals
 pub mod Cycle
 pub mod Go
 pub mod Held
-pub mod Whole
+pub mod Datapaths
+pub mod Refusals

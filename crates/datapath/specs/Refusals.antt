@@ -1,4 +1,4 @@
--- The refusal of power, by its number in the manual, and the refusal and the faults as text.
+-- The refusal of power: its number in the manual. How this refusal, the ports and the faults read as text.
 use Rattle.std.specs.Prelude.{ℕ, List, ◌++◌, codes, decimal}
 use Rattle.datapath.specs.declared.refusal.PowerRefusal.{PowerRefusal}
 use Rattle.datapath.specs.declared.refusal.PowerRefusal.TheVariants.{WrongMpc}
@@ -7,19 +7,19 @@ use Rattle.datapath.specs.declared.pending.Port.TheVariants.{Fetch, Read, Write}
 use Rattle.datapath.specs.declared.pending.Fault.{Fault}
 use Rattle.memory.specs.Refusals.{access_text}
 
--- Power: 11 for an MPC above 511.
+-- The number of a refusal of power: 11 for an MPC above 511.
 abbrev pub power_number : PowerRefusal → ℕ
 power_number WrongMpc = 11
 
--- The same as text.
+-- Why a machine does not start where it is told to, in words.
 abbrev pub power_reason : PowerRefusal → List ℕ
 power_reason WrongMpc = codes "MPC is above 511"
 
--- With the number before it.
+-- A refusal of power as text: "refused", its number, and the reason.
 abbrev pub power_text : PowerRefusal → List ℕ
 power_text refusal = codes "refused " ++ (decimal (power_number refusal) ++ (codes ": " ++ power_reason refusal))
 
--- The ports by name.
+-- The name of a port.
 abbrev pub port_text : Port → List ℕ
 port_text Fetch = codes "fetch"
 port_text Read = codes "read"

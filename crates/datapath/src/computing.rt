@@ -8,14 +8,14 @@ ghost use Rattle.datapath.specs.Held.{mbr_in, result_by_slots};
 use crate::RegisterFile;
 use control::{PreparedWord, shift};
 
-// Whether the word jumps on N or Z. They stand apart, as the ALU has to answer them.
+// Whether the word jumps on N or Z.
 fn jumps(word: &PreparedWord, n: bool, z: bool) -> bool
     ensures { result ≡ (((word_of word.now).jamn && n) || ((word_of word.now).jamz && z)) }
 {
     (word.word.jamn && n) || (word.word.jamz && z)
 }
 
-// The next MPC. The two ifs are gates, as the rule has them.
+// The next MPC.
 fn successor(word: &PreparedWord, mbr: u8, n: bool, z: bool) -> u16
     ensures value { result ≡ successor_of (word_of word.now) mbr n z }
     ensures within { result < 2 ^ 9 }
@@ -25,7 +25,7 @@ fn successor(word: &PreparedWord, mbr: u8, n: bool, z: bool) -> u16
     word.word.next | byte | bit_8
 }
 
-// What the C bus brings, and the next MPC: both from what is held before anything arrives. Most words neither shift nor jump, and of these the result and NEXT are all.
+// The value on the C bus and the next MPC, both from what is held before anything arrives. Most words neither shift nor jump: of these they are the ALU's result and NEXT.
 #[tactic(auto, using(crate::proofs::Straight::unshifted, crate::proofs::Straight::goes_to_next))]
 #[inline(always)]
 pub(crate) fn computed(word: &PreparedWord, file: &RegisterFile) -> (u32, u16)

@@ -5,7 +5,6 @@ mod complete;
 mod computing;
 mod cycles;
 mod datapath_type;
-mod looks;
 mod machine_state;
 mod pending;
 mod refusal;
@@ -13,6 +12,7 @@ mod register_file;
 mod sequencer;
 mod slots;
 mod starts;
+mod state_and_memory;
 
 pub use cycles::power_refusal;
 pub use datapath_type::Datapath;

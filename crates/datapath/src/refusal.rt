@@ -1,18 +1,19 @@
-// Why a machine does not start where it is told to, and the number of the refusal.
+// The refusal of power.
 ghost use Rattle.std.specs.Prelude.{◌≡◌, Some};
 ghost use Rattle.datapath.specs.Refusals.{power_number, power_reason, power_text};
 
 use std::error::Error;
 use std::fmt;
 
+/// Why a machine does not start where it is told to (docs/refusals.md).
 #[derive(Clone, Copy, Debug, PartialEq, Eq)]
 pub enum PowerRefusal {
-    // MPC above 511
+    /// 11: the MPC is above 511.
     WrongMpc = 11,
 }
 
 impl PowerRefusal {
-    // The number of the refusal: its discriminant. A cast asks for the enum's own type, so each enum has this function.
+    /// The number of the refusal: its discriminant (docs/refusals.md).
     pub fn number(self) -> u32
         ensures { result ≡ power_number self }
     {
@@ -29,7 +30,7 @@ impl PowerRefusal {
     }
 }
 
-// As that of every refusal: a Display for all types of a trait is not to be had.
+// "refused", the number, and the reason.
 impl fmt::Display for PowerRefusal {
     ghost output = { λ refusal. Some (power_text refusal) };
 

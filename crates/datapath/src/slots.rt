@@ -1,10 +1,10 @@
-// What the slots of a register file hold, and how they change.
+// What a register file holds, and how that changes.
 ghost use Rattle.std.specs.Prelude.{◌≡◌, ◌^◌, ◌<◌, true, slice_set, if◌then◌else◌};
 ghost use Rattle.control.specs.Bus.{signed, source_of, bus_of};
-ghost use Rattle.control.specs.Slots.{is_loadable};
+ghost use Rattle.control.specs.Slots.{is_writable};
 ghost use Rattle.control.specs.PreparedWords.{word_of};
-ghost use Rattle.datapath.specs.Cycle.{loaded_of, arrived_of, arriving};
-ghost use Rattle.datapath.specs.Held.{registers_in, mbr_in};
+ghost use Rattle.datapath.specs.Cycle.{written_from_c_bus, arrived_of, arriving};
+ghost use Rattle.datapath.specs.Held.{slots_in, registers_in, mbr_in};
 
 use crate::RegisterFile;
 use control::{ControlWord, PreparedWord, Registers};
@@ -16,11 +16,11 @@ fn signed(byte: u8) -> u32
     i32::from(byte.cast_signed()).cast_unsigned()
 }
 
-// What the C bus brings where it is loaded, else what is held: nine times the same choice.
-fn pick(loaded: bool, new: u32, held: u32) -> u32
-    ensures { result ≡ (if loaded then new else held) }
+// One word where the register is written, else the other.
+fn pick(written: bool, new: u32, held: u32) -> u32
+    ensures { result ≡ (if written then new else held) }
 {
-    if loaded { new } else { held }
+    if written { new } else { held }
 }
 
 #[tactic(auto, unfolding(crate::specs::Held::registers_in))]
@@ -39,9 +39,9 @@ impl RegisterFile {
         }
     }
 
-    // The registers.
+    /// The nine registers of 32 bits (docs/cycle.md).
     pub fn registers(&self) -> Registers
-        ensures { result ≡ registers_in self.now.words }
+        ensures { result ≡ registers_in (slots_in self.now) }
     {
         let w = &self.words;
         Registers {
@@ -73,18 +73,18 @@ impl RegisterFile {
         self.words[usize::from(b)]
     }
 
-    // Loads one slot.
+    // Writes one slot.
     #[tactic(auto, using(crate::proofs::SlotLaws::apart_from_mbr, crate::proofs::SlotLaws::apart_from_silent))]
     fn put(&mut self, slot: u8, word: u32)
-        requires { is_loadable slot ≡ true }
+        requires { is_writable slot ≡ true }
         ensures { self.new.words ≡ slice_set self.old.words slot word }
     {
         self.words[usize::from(slot)] = word;
     }
 
-    // Loads the registers that the C bits name, one after the other: for words that load more than two.
-    fn load_each(&mut self, word: &ControlWord, value: u32)
-        ensures registers { registers_in self.new.words ≡ loaded_of word.now (registers_in self.old.words) value }
+    // Writes the registers that the C bits name, one after the other: for words that write more than two.
+    fn write_each(&mut self, word: &ControlWord, value: u32)
+        ensures registers { registers_in self.new.words ≡ written_from_c_bus word.now (registers_in self.old.words) value }
         ensures mbr { mbr_in self.new.words ≡ mbr_in self.old.words }
     {
         let (c, w) = (word.c, self.words);
@@ -111,14 +111,14 @@ impl RegisterFile {
         ];
     }
 
-    // Loads the registers that the C bits name.
-    #[tactic(auto, using(crate::proofs::SlotLaws::two_loaded))]
-    pub(crate) fn load(&mut self, word: &PreparedWord, value: u32)
-        ensures registers { registers_in self.new.words ≡ loaded_of (word_of word.now) (registers_in self.old.words) value }
+    // Writes the registers that the C bits name.
+    #[tactic(auto, using(crate::proofs::SlotLaws::two_written))]
+    pub(crate) fn write_from_c_bus(&mut self, word: &PreparedWord, value: u32)
+        ensures registers { registers_in self.new.words ≡ written_from_c_bus (word_of word.now) (registers_in self.old.words) value }
         ensures mbr { mbr_in self.new.words ≡ mbr_in self.old.words }
     {
         if word.more {
-            self.load_each(&word.word, value);
+            self.write_each(&word.word, value);
         } else {
             self.put(word.slot, value);
             self.put(word.other, value);

@@ -8,19 +8,20 @@ use Rattle.memory.specs.Meaning.{Meaning, protected_of, written_of}
 use Rattle.datapath.specs.declared.pending.DataAccess.{DataAccess}
 use Rattle.datapath.specs.declared.pending.DataAccess.TheVariants.{Read as Reading, Write as Writing}
 use Rattle.datapath.specs.Cycle.{byte_in}
+use Rattle.instructions.specs.declared.cases.Case.{Case}
 use Rattle.instructions.specs.Checks.{first_refusal}
-use Rattle.instructions.specs.Machine.{Ijvm, byte_of}
-use Rattle.instructions.specs.Stands.{settled_words}
+use Rattle.instructions.specs.Ijvm.{Ijvm, byte_of}
+use Rattle.instructions.specs.StandsFor.{settled_words}
 use Rattle.instructions.proofs.Lists.{sound_after}
 use Rattle.instructions.proofs.EveryCase.{adds_up}
 use Rattle.instructions.proofs.Nested.{any_calls_nest}
 use Rattle.instructions.proofs.Checked.{all_pass}
 use Rattle.ijvm.specs.declared.numbers.Numbers.{Numbers}
 use Rattle.ijvm.specs.declared.start_refusal.StartRefusal.{StartRefusal}
-use Rattle.ijvm.specs.Kit.{Kit}
+use Rattle.ijvm.specs.MachineState.{MachineState}
 use Rattle.ijvm.specs.Start.{Fits, memory_checks, filled_word, filled_words, start_words, start_of, fresh_of, started_of, after_start}
-use Rattle.ijvm.specs.Turns.{start_turn}
-use Rattle.ijvm.specs.History.{beginning_of, Begun, Came, Begins, RefusedLater, Continues}
+use Rattle.ijvm.specs.Transitions.{start_transition}
+use Rattle.ijvm.specs.Reached.{beginning_of, Beginning, Begun, Reached, Begins, Continues}
 use Rattle.ijvm.proofs.Continued.{same}
 
 -- a list whose words are those of a function of the address, up to its end
@@ -56,10 +57,10 @@ module _ (n : Numbers) (word : ℕ → ℕ) where
   first_byte within main_in = ap (λ w. byte_in w (n.main + 4)) (at_below within ((n.main + 4) / 4) (omega arith))
 
   -- the memory that is filled, protected, and holds the link at the mark
-  pub placed : (m p w : Meaning) (link : ℕ) → n.mark < n.size → m.words ≡ filled_words n word → m.mark ≡ 0
+  pub set_up_memory : (m p w : Meaning) (link : ℕ) → n.mark < n.size → m.words ≡ filled_words n word → m.mark ≡ 0
       → p ≡ protected_of m n.mark → w ≡ written_of p n.mark link → link ≡ n.mark + 1 + n.locals → w ≡ record { words = start_words n word; mark = n.mark }
   unfolding start_words
-  placed m p w link within words mark protected written l =
+  set_up_memory m p w link within words mark protected written l =
       let size : length m.words ≡ n.size = ap length words ∙ length-map-range_with_len (filled_word n word) 0 n.size in
       let p-is : p ≡ record { words = filled_words n word; mark = n.mark } =
       protected ∙ rw (le-ltb n.mark m.mark (omega (arith, mark)), le-ltb (length m.words) n.mark (omega (arith, size)), words) refl in
@@ -94,7 +95,7 @@ module _ (n : Numbers) (word : ℕ → ℕ) where
             pool_in = fits.pool_in;
             pc_in = fits.main_in;
           };
-          stands = record {
+          stands_for = record {
             at_main = refl;
             same_pc = refl;
             same_sp = refl;
@@ -110,28 +111,28 @@ module _ (n : Numbers) (word : ℕ → ℕ) where
           zero = refl;
         }
 
-    pub came : Came (beginning_of n word) [] (start_of n word) (started_of n word)
-    came =
+    pub reached : Reached (beginning_of n word) [] (start_of n word) (started_of n word)
+    reached =
         let b = begun in
         record {
           begun = b;
           performs = refl;
           loaded = refl;
-          stands = b.stands;
+          stands_for = b.stands_for;
           cycles = refl;
           counter = refl;
-          fronts = adds_up [] (start_of n word) (start_of n word) (fresh_of n word) b.sound b.stands (omega arith) refl;
+          fronts = adds_up [] (start_of n word) (start_of n word) (fresh_of n word) b.sound b.stands_for (omega arith) refl;
           nested = any_calls_nest [] (start_of n word) (start_of n word) b.sound refl;
         }
 
 -- an accepted load begins
-pub load_begins : (n : Numbers) (word : ℕ → ℕ) (k next : Kit) (r : Result (Unit {0}) StartRefusal) → Fits n
+pub load_begins : (n : Numbers) (word : ℕ → ℕ) (k next : MachineState) (r : Result (Unit {0}) StartRefusal) → Fits n
     → (r ≡ Ok tt → (a : ℕ) → a < n.size → filled_word n word a < 2 ^ 32) → next ≡ after_start n word k r → Begins n word r next
 unfolding Begins
 load_begins n word k next r fits small after ok =
-    subst (λ (x : Kit). Came (beginning_of n word) [] (start_of n word) x) (sym (after ∙ ap (after_start n word k) ok)) (came n word fits (small ok))
+    subst (λ (x : MachineState). Reached (beginning_of n word) [] (start_of n word) x) (sym (after ∙ ap (after_start n word k) ok)) (reached n word fits (small ok))
 
--- a later load is refused
+-- a write under way changes no size
 pub settled-length : (m : Meaning) (access : Option DataAccess) → length (settled_words m access) ≡ length m.words
 settled-length m None = refl
 settled-length m (Some (Reading a mpc)) = refl
@@ -146,27 +147,30 @@ never n m one ok =
     let zero : m.mark ≡ 0 = eqb-true _ _ (all_pass (memory_checks n m) ok).1.0 in
     omega arith
 
-pub load_continues : (n : Numbers) (word : ℕ → ℕ) (k next : Kit) (r : Result (Unit {0}) StartRefusal) → r ≡ first_refusal (memory_checks n k.micro.memory)
-    → next ≡ after_start n word k r → Continues (start_turn n) r k next
+pub load_continues : (n : Numbers) (word : ℕ → ℕ) (k next : MachineState) (r : Result (Unit {0}) StartRefusal) → r ≡ first_refusal (memory_checks n k.micro.memory)
+    → next ≡ after_start n word k r → Continues (start_transition n) r k next
 unfolding Continues
 load_continues n word k next r answer after b cases s h =
     let sound = sound_after cases b.start s h.begun.sound h.performs in
-    let size : length k.micro.memory.words ≡ length s.words = sym (settled-length k.micro.memory k.micro.state.access) ∙ ap length h.stands.same_words in
+    let size : length k.micro.memory.words ≡ length s.words = sym (settled-length k.micro.memory k.micro.state.access) ∙ ap length h.stands_for.same_words in
     record {
-      same_answer = answer ∙ asked n k.micro.memory s size h.stands.same_mark;
-      came = stays r answer after;
+      same_answer = answer ∙ asked n k.micro.memory s size h.stands_for.same_mark;
+      reached = stays r answer after;
     }
   where
-    stays : (x : Result (Unit {0}) StartRefusal) → x ≡ first_refusal (memory_checks n k.micro.memory) → next ≡ after_start n word k x → Came b (cases ++ []) s next
-    stays (Err e) q a = subst (λ (j : Kit). Came b (cases ++ []) s j) (sym a) (same b cases s k h)
+    stays : (x : Result (Unit {0}) StartRefusal) → x ≡ first_refusal (memory_checks n k.micro.memory) → next ≡ after_start n word k x → Reached b (cases ++ []) s next
+    stays (Err e) q a = subst (λ (j : MachineState). Reached b (cases ++ []) s j) (sym a) (same b cases s k h)
     stays (Ok tt) q a =
         let pc = (sound_after cases b.start s h.begun.sound h.performs).pc_in in
-        let mark = h.stands.same_mark in
+        let mark = h.stands_for.same_mark in
         absurd (never n k.micro.memory (omega arith) (sym q))
 
-pub refused_later : (n : Numbers) (k : Kit) (r : Result (Unit {0}) StartRefusal) → r ≡ first_refusal (memory_checks n k.micro.memory) → RefusedLater n r k
-unfolding RefusedLater
-refused_later n k r answer b cases s h ok =
+-- the mark of a machine that has reached a state is above 0
+pub marked : (b : Beginning) (cases : List Case) (s : Ijvm) (k : MachineState) → Reached b cases s k → 1 ≤ k.micro.memory.mark
+marked b cases s k h =
     let pc = (sound_after cases b.start s h.begun.sound h.performs).pc_in in
-    let mark = h.stands.same_mark in
-    never n k.micro.memory (omega arith) (sym answer ∙ ok)
+    let mark = h.stands_for.same_mark in
+    omega arith
+
+pub refused : (n : Numbers) (k : MachineState) (r : Result (Unit {0}) StartRefusal) → r ≡ first_refusal (memory_checks n k.micro.memory) → 1 ≤ k.micro.memory.mark → r ≡ Ok tt → ⊥
+refused n k r answer one ok = never n k.micro.memory one (sym answer ∙ ok)

@@ -1,6 +1,7 @@
-pub mod Refusals
-pub mod Kit
+pub mod MachineState
+pub mod Machines
 pub mod Start
 pub mod Calls
-pub mod Turns
-pub mod History
+pub mod Transitions
+pub mod Reached
+pub mod Refusals

@@ -1,4 +1,4 @@
--- The refusals of look and of a start, by their numbers in the manual, and the number that a run answers.
+-- The refusals of look and of a load, by their numbers, and as text.
 use Rattle.std.specs.Prelude.{ℕ, List, ◌++◌, Some, None, Option, codes, decimal}
 use Rattle.instructions.specs.declared.refusal.StepRefusal.{StepRefusal}
 use Rattle.instructions.specs.Refusals.{step_number}
@@ -7,35 +7,35 @@ use Rattle.ijvm.specs.declared.look_refusal.LookRefusal.TheVariants.{OutOfRange,
 use Rattle.ijvm.specs.declared.start_refusal.StartRefusal.{StartRefusal}
 use Rattle.ijvm.specs.declared.start_refusal.StartRefusal.TheVariants.{OtherSize, Marked}
 
--- Look: 39 where no program is loaded; 4 for an address that is not below the size.
+-- Look refuses 39 where no program is loaded, and 4 for an address that is not below the size.
 abbrev pub look_number : LookRefusal → ℕ
 look_number OutOfRange = 4
 look_number NotLoaded = 39
 
--- Load, by the memory: 25 for another size; 26 for a mark that is not 0.
+-- The memory is refused with 25 where its size is not the program's, and with 26 where its mark is not 0.
 abbrev pub start_number : StartRefusal → ℕ
 start_number OtherSize = 25
 start_number Marked = 26
 
--- Run answers 0, or the number of the refusal that stopped it.
+-- The number of a run: 0 where all steps were done, else the number of the refusal that stopped it.
 abbrev pub stop_number : Option StepRefusal → ℕ
 stop_number None = 0
 stop_number (Some refusal) = step_number refusal
 
--- The refusals as text.
+-- Why a word is not looked at, in words.
 abbrev pub look_reason : LookRefusal → List ℕ
 look_reason OutOfRange = codes "the address is not below the size"
 look_reason NotLoaded = codes "no program is loaded"
 
--- With the number before it.
+-- A refusal of look as text: "refused", its number, and the reason.
 abbrev pub look_text : LookRefusal → List ℕ
 look_text refusal = codes "refused " ++ (decimal (look_number refusal) ++ (codes ": " ++ look_reason refusal))
 
--- The refusals of a start, likewise.
+-- Why the memory is refused, in words.
 abbrev pub start_reason : StartRefusal → List ℕ
 start_reason OtherSize = codes "the memory has another size than the program is for"
 start_reason Marked = codes "the memory's mark is not 0"
 
--- With the number before it.
+-- A refusal of the memory as text: "refused", its number, and the reason.
 abbrev pub start_text : StartRefusal → List ℕ
 start_text refusal = codes "refused " ++ (decimal (start_number refusal) ++ (codes ": " ++ start_reason refusal))

@@ -1,13 +1,13 @@
 // A program is loaded.
-ghost use Rattle.std.specs.Prelude.{◌≡◌, ℕ, ◌+◌, ◌^◌, ◌<◌, Ok};
+ghost use Rattle.std.specs.Prelude.{◌≡◌, ℕ, ◌+◌, ◌^◌, ◌<◌, Ok, OnErr};
 ghost use Rattle.datapath.specs.Cycle.{byte_in};
 ghost use Rattle.datapath.specs.Held.{state_of};
 ghost use Rattle.memory.specs.Meaning.{size_of};
 ghost use Rattle.instructions.specs.Checks.{first_refusal};
-ghost use Rattle.ijvm.specs.Kit.{kit_of};
+ghost use Rattle.ijvm.specs.Machines.{machine_state, memory_in, loan_of};
 ghost use Rattle.ijvm.specs.Start.{Fits, memory_checks, filled_word, filled_words, start_words, fresh_of, after_start};
-ghost use Rattle.ijvm.specs.Turns.{start_turn};
-ghost use Rattle.ijvm.specs.History.{Begins, Continues, RefusedLater};
+ghost use Rattle.ijvm.specs.Transitions.{start_transition};
+ghost use Rattle.ijvm.specs.Reached.{Begins, Continues, LaterLoadRefused, Simulates};
 
 use crate::{Layout, Machine, Numbers, Program, StartRefusal};
 use control::Registers;
@@ -15,10 +15,10 @@ use datapath::Datapath;
 use instructions::check;
 use memory::Memory;
 
-// The address of the line Main1, at which each instruction begins.
+// The address of the line Main1 in the control store: each instruction begins there.
 const MAIN1: u16 = 0x100;
 
-// What is asked of the memory that a program is loaded into.
+// What a load asks of the memory.
 fn fits<M: Memory>(memory: &M, numbers: Numbers) -> Result<(), StartRefusal>
     ensures { result ≡ first_refusal (memory_checks numbers (M.Memory.meaning memory.now)) }
 {
@@ -37,7 +37,7 @@ fn word_for<P: Program>(program: &P, numbers: Numbers, address: u32) -> u32
     }
 }
 
-// Fills a memory of this size, of which no word is protected.
+// Fills a memory of the program's size, of which no word is protected.
 #[tactic(auto, using(crate::proofs::Started::by_each))]
 fn fill<M: Memory, P: Program>(memory: &mut M, program: &P, numbers: Numbers)
     requires size { size_of (M.Memory.meaning memory.old) ≡ numbers.size }
@@ -53,8 +53,8 @@ fn fill<M: Memory, P: Program>(memory: &mut M, program: &P, numbers: Numbers)
     }
 }
 
-// Leaves a memory as a program starts in it: filled, protected, and main's link written at the mark.
-fn place<M: Memory, P: Program>(memory: &mut M, program: &P, layout: Layout)
+// Sets a memory up for the start of a program: filled, protected, and main's link written at the mark.
+fn set_up<M: Memory, P: Program>(memory: &mut M, program: &P, layout: Layout)
     requires size { size_of (M.Memory.meaning memory.old) ≡ layout.numbers.size }
     requires open_to { (M.Memory.meaning memory.old).mark ≡ 0 }
     ensures meaning { M.Memory.meaning memory.new ≡ (fresh_of layout.numbers (P.Program.words program.now)).memory }
@@ -89,31 +89,35 @@ fn start_main<M, P: Program>(datapath: &mut Datapath<M>, program: &P, layout: La
 }
 
 impl<M: Memory> Machine<M> {
-    // A load, whatever the machine holds.
+    // A load by the machine's own reply.
+    #[tactic(auto, using(crate::proofs::Origins::begun_origin))]
     fn started<P: Program>(&mut self, program: &P) -> Result<(), StartRefusal>
-        ensures answer { result ≡ first_refusal (memory_checks (P.Program.numbers program.now) (kit_of M.Memory.meaning self.old).micro.memory) }
-        ensures after { kit_of M.Memory.meaning self.new ≡ after_start (P.Program.numbers program.now) (P.Program.words program.now) (kit_of M.Memory.meaning self.old) result }
+        ensures answer { result ≡ first_refusal (memory_checks (P.Program.numbers program.now) (machine_state self.old).micro.memory) }
+        ensures after { machine_state self.new ≡ after_start (P.Program.numbers program.now) (P.Program.words program.now) (machine_state self.old) result }
+        ensures kept { OnErr result (memory_in self.new ≡ memory_in self.old) }
         ensures fits { Fits (P.Program.numbers program.now) }
         ensures small { result ≡ Ok tt → (a : ℕ) → a < (P.Program.numbers program.now).size → filled_word (P.Program.numbers program.now) (P.Program.words program.now) a < 2 ^ 32 }
-        ensures loan { M.Memory.loan self.new.datapath.memory ≡ M.Memory.loan self.old.datapath.memory }
+        ensures loan { loan_of self.new ≡ loan_of self.old }
     {
         let layout = program.layout();
         fits(&self.datapath.memory, layout.numbers)?;
-        place(&mut self.datapath.memory, program, layout);
+        set_up(&mut self.datapath.memory, program, layout);
         start_main(&mut self.datapath, program, layout);
         self.pool = Some(layout.numbers.pool);
         Ok(())
     }
 
-    // Fills the memory with a program and starts its main. It refuses 25 another size of the memory, then 26 a mark that is not 0; refused, it changes nothing.
-    #[tactic(auto, using(crate::proofs::Started::load_begins, crate::proofs::Started::load_continues, crate::proofs::Started::refused_later))]
+    /// Loads a program: fills the memory with its protected words and zeros, protects them, and starts main. Refused with 25 where the memory has another size, then with 26 where its mark is not 0, as it is where a program is loaded already; then nothing changes (docs/image.md).
+    #[tactic(auto, using(crate::proofs::Started::load_begins, crate::proofs::Started::load_continues, crate::proofs::Origins::load_simulates, crate::proofs::Origins::later_load_refused))]
     pub fn load<P: Program>(&mut self, program: &P) -> Result<(), StartRefusal>
-        ensures answer { result ≡ first_refusal (memory_checks (P.Program.numbers program.now) (kit_of M.Memory.meaning self.old).micro.memory) }
-        ensures after { kit_of M.Memory.meaning self.new ≡ after_start (P.Program.numbers program.now) (P.Program.words program.now) (kit_of M.Memory.meaning self.old) result }
-        ensures begins { Begins (P.Program.numbers program.now) (P.Program.words program.now) result (kit_of M.Memory.meaning self.new) }
-        ensures later { RefusedLater (P.Program.numbers program.now) result (kit_of M.Memory.meaning self.old) }
-        ensures continues { Continues (start_turn (P.Program.numbers program.now)) result (kit_of M.Memory.meaning self.old) (kit_of M.Memory.meaning self.new) }
-        ensures loan { M.Memory.loan self.new.datapath.memory ≡ M.Memory.loan self.old.datapath.memory }
+        ensures answer { result ≡ first_refusal (memory_checks (P.Program.numbers program.now) (machine_state self.old).micro.memory) }
+        ensures after { machine_state self.new ≡ after_start (P.Program.numbers program.now) (P.Program.words program.now) (machine_state self.old) result }
+        ensures kept { OnErr result (memory_in self.new ≡ memory_in self.old) }
+        ensures begins { Begins (P.Program.numbers program.now) (P.Program.words program.now) result (machine_state self.new) }
+        ensures later { LaterLoadRefused result (machine_state self.old) }
+        ensures simulates { Simulates (start_transition (P.Program.numbers program.now)) result (machine_state self.old) (machine_state self.new) }
+        ensures continues { Continues (start_transition (P.Program.numbers program.now)) result (machine_state self.old) (machine_state self.new) }
+        ensures loan { loan_of self.new ≡ loan_of self.old }
     {
         self.started(program)
     }

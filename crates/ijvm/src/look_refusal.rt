@@ -1,20 +1,21 @@
-// Why a word is not looked at, and the number of the refusal.
+// The refusals of look.
 ghost use Rattle.std.specs.Prelude.{◌≡◌, Some};
 ghost use Rattle.ijvm.specs.Refusals.{look_number, look_reason, look_text};
 
 use std::error::Error;
 use std::fmt;
 
+/// Why look answers no word (docs/refusals.md).
 #[derive(Clone, Copy, Debug, PartialEq, Eq)]
 pub enum LookRefusal {
-    // an address that is not below the size
+    /// 4: the word address is not below the size of the memory.
     OutOfRange = 4,
-    // no program is loaded
+    /// 39: no program is loaded.
     NotLoaded = 39,
 }
 
 impl LookRefusal {
-    // The number of the refusal: its discriminant. A cast asks for the enum's own type, so each enum has this function.
+    /// The number of the refusal: its discriminant (docs/refusals.md).
     pub fn number(self) -> u32
         ensures { result ≡ look_number self }
     {
@@ -32,7 +33,7 @@ impl LookRefusal {
     }
 }
 
-// As that of every refusal: a Display for all types of a trait is not to be had.
+// `refused`, the number and the reason.
 impl fmt::Display for LookRefusal {
     ghost output = { λ refusal. Some (look_text refusal) };
 

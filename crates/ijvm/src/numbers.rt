@@ -1,16 +1,18 @@
 // The numbers of a program.
 
-// What a program says of itself, besides its protected words.
+/// What a program says of itself, besides its protected words (docs/image.md).
 #[derive(Clone, Copy, Debug, PartialEq, Eq)]
 pub struct Numbers {
-    // words of the memory that it is for
+    /// The words of the memory that it is for.
     pub size: u32,
-    // how many words are protected
+    /// How many words are protected.
     pub mark: u32,
-    // the word address of the constant pool, and how many words it has
+    /// The word address of the constant pool.
     pub cpp: u32,
+    /// How many words the constant pool has.
     pub pool: u32,
-    // main's byte address, and how many locals it has
+    /// Main's byte address.
     pub main: u32,
+    /// How many locals main has.
     pub locals: u16,
 }

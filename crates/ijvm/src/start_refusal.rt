@@ -1,21 +1,21 @@
-// Why a program is not started, and the number of the refusal.
+// The refusals of a load that the memory gives cause for.
 ghost use Rattle.std.specs.Prelude.{◌≡◌, Some};
 ghost use Rattle.ijvm.specs.Refusals.{start_number, start_reason, start_text};
 
 use std::error::Error;
 use std::fmt;
 
-// Of load's refusals those that a memory gives cause for.
+/// Why a program is not loaded into a memory (docs/refusals.md).
 #[derive(Clone, Copy, Debug, PartialEq, Eq)]
 pub enum StartRefusal {
-    // the memory has another size than the program is for
+    /// 25: the memory has another size than the program is for.
     OtherSize = 25,
-    // the memory's mark is not 0
+    /// 26: the memory's mark is not 0.
     Marked = 26,
 }
 
 impl StartRefusal {
-    // The number of the refusal: its discriminant. A cast asks for the enum's own type, so each enum has this function.
+    /// The number of the refusal: its discriminant (docs/refusals.md).
     pub fn number(self) -> u32
         ensures { result ≡ start_number self }
     {
@@ -33,7 +33,7 @@ impl StartRefusal {
     }
 }
 
-// As that of every refusal: a Display for all types of a trait is not to be had.
+// `refused`, the number and the reason.
 impl fmt::Display for StartRefusal {
     ghost output = { λ refusal. Some (start_text refusal) };
 

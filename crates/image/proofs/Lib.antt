@@ -1,4 +1,5 @@
 pub mod Sums
 pub mod Appended
 pub mod Histories
+pub mod LaterLoads
 pub mod Loads

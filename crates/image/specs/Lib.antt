@@ -1,5 +1,7 @@
 pub mod Format
-pub mod Refusals
+pub mod Images
 pub mod Load
 pub mod Calls
-pub mod History
+pub mod Answers
+pub mod WholeStatement
+pub mod Refusals

@@ -5,7 +5,7 @@ ghost use Rattle.image.specs.Load.{length_fits};
 
 use crate::bytes::word;
 
-// A length of at least two blocks, and of whole blocks.
+// Whether the length is a number of blocks, and at least two.
 pub(crate) fn length_fits(bytes: &[u8]) -> bool
     ensures { result ≡ length_fits bytes.now }
 {
@@ -20,7 +20,7 @@ pub(crate) fn blocks(bytes: &[u8]) -> usize
 }
 
 // The sum of a block's words, modulo 2^32.
-#[tactic(auto, using(crate::proofs::Sums::wrapped_more, crate::proofs::Sums::whole_block))]
+#[tactic(auto, using(crate::proofs::Sums::wrapped_more, crate::proofs::Sums::full_block))]
 fn block_sum(bytes: &[u8], block: usize) -> u32
     requires { block < 2 ^ 54 }
     ensures { result ≡ block_sum bytes.now block % 2 ^ 32 }
@@ -40,7 +40,7 @@ fn adds_up(bytes: &[u8], block: usize) -> bool
     block_sum(bytes, block) as usize == block % 0x1_0000_0000
 }
 
-// The first block whose words do not, if there is one.
+// The first block whose words do not add up to its number, if there is one.
 pub(crate) fn failed_block(bytes: &[u8]) -> Option<usize>
     ensures { result ≡ failed_block bytes.now }
 {

@@ -1,6 +1,6 @@
 // What is read of an image's bytes.
 ghost use Rattle.std.specs.Prelude.{◌≡◌, ◌+◌, ◌^◌, ◌<◌, slice_index};
-ghost use Rattle.image.specs.Format.{code_byte, code_short, protected_word_of, word_of};
+ghost use Rattle.image.specs.Format.{code_byte, code_short, protected_word_of, image_word};
 
 // The byte at an index; 0 where there is none.
 pub(crate) fn byte(bytes: &[u8], index: usize) -> u8
@@ -12,7 +12,7 @@ pub(crate) fn byte(bytes: &[u8], index: usize) -> u8
 // A word by its index, the most significant byte first.
 pub(crate) fn word(bytes: &[u8], index: usize) -> u32
     requires { index < 2 ^ 61 }
-    ensures { result ≡ word_of bytes.now index }
+    ensures { result ≡ image_word bytes.now index }
 {
     let at = 4 * index;
     u32::from_be_bytes([
@@ -23,7 +23,7 @@ pub(crate) fn word(bytes: &[u8], index: usize) -> u32
     ])
 }
 
-// A protected word by its address. The later blocks carry 127 each.
+// A protected word by its address: the blocks behind block 0 carry 127 each.
 pub(crate) fn protected_word(bytes: &[u8], address: usize) -> u32
     requires { address < 2 ^ 60 }
     ensures { result ≡ protected_word_of bytes.now address }

@@ -2,7 +2,7 @@
 ghost use Rattle.std.specs.Prelude.{◌≡◌, IfOk};
 ghost use Rattle.instructions.specs.Checks.{first_refusal};
 ghost use Rattle.image.specs.Format.{blocks_for, blocks_of, numbers_of, main_params_of};
-ghost use Rattle.image.specs.Load.{accepted, main_fits, mark_fits, number_checks, pool_fits, size_fits};
+ghost use Rattle.image.specs.Load.{outcome_of, main_fits, mark_fits, number_checks, pool_fits, size_fits};
 
 use crate::blocks::blocks;
 use crate::bytes::{code_short, word};
@@ -17,7 +17,7 @@ fn blocks_for(mark: u32) -> usize
     1 + (mark as usize).div_ceil(127)
 }
 
-// The numbers as they stand. Main's locals stand in the code, behind its params.
+// The numbers that the image holds. Main's locals stand in the code, behind its params.
 fn numbers(bytes: &[u8]) -> Numbers
     ensures { result ≡ numbers_of bytes.now }
 {
@@ -70,10 +70,10 @@ fn main_fits(params: u16, numbers: Numbers) -> bool
         && mark + u64::from(numbers.locals) + 2 < u64::from(numbers.size)
 }
 
-// The numbers, which fit; or the first place at which they do not.
+// The numbers, which fit together; or the first place of a number that does not fit.
 #[tactic(auto, unfolding(crate::specs::Load::number_checks))]
 pub(crate) fn layout(bytes: &[u8]) -> Result<Layout, LoadRefusal>
-    ensures answer { accepted result ≡ first_refusal (number_checks (blocks_of bytes.now) (main_params_of bytes.now) (numbers_of bytes.now)) }
+    ensures answer { outcome_of result ≡ first_refusal (number_checks (blocks_of bytes.now) (main_params_of bytes.now) (numbers_of bytes.now)) }
     ensures numbers { IfOk result (λ layout. layout.numbers ≡ numbers_of bytes.now) }
 {
     let numbers = numbers(bytes);

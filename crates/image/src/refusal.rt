@@ -1,4 +1,4 @@
-// Why an image is not loaded, and the numbers of the refusals.
+// The refusals of load.
 ghost use Rattle.std.specs.Prelude.{◌≡◌, Some};
 ghost use Rattle.image.specs.Refusals.{load_detail, load_number, load_text, of_start, place_number, place_reason};
 
@@ -6,35 +6,40 @@ use ijvm::StartRefusal;
 use std::error::Error;
 use std::fmt;
 
-// Which number of block 0 is wrong, by the word in which it stands.
+/// The place of a number that does not fit: the word of block 0 in which it stands (docs/image.md).
 #[derive(Clone, Copy, Debug, PartialEq, Eq)]
 pub enum Place {
+    /// Word 1: the size of the memory in words.
     Size = 1,
+    /// Word 2: the mark, how many words are protected.
     Mark = 2,
+    /// Word 3: CPP, the word address of the constant pool, also where the pool count of word 4 is too high.
     Pool = 3,
+    /// Word 5: main's byte address.
     Main = 5,
 }
 
+/// Why load refuses an image or the memory (docs/refusals.md).
 #[derive(Clone, Copy, Debug, PartialEq, Eq)]
 pub enum LoadRefusal {
-    // 20: a length below two blocks, or no whole number of blocks
+    /// 20: the length is below 1,024 bytes, or no multiple of 512.
     WrongLength,
-    // 21: the words of a block do not add up to its number; the first such block
+    /// 21: the words of this block do not add up to its number; the first such block.
     FailedCheck { block: usize },
-    // 22: word 0 is not the number of blocks
+    /// 22: word 0 is not the number of blocks.
     WrongCount,
-    // 23: a number of block 0
+    /// 23: the number at this place of block 0 does not fit; the first such place.
     WrongNumber(Place),
-    // 24: an unused byte that is not zero
+    /// 24: an unused byte is not zero.
     NotZero,
-    // 25: the memory has another size than the image is for
+    /// 25: the memory has another size than the image is for.
     OtherSize,
-    // 26: the memory's mark is not 0
+    /// 26: the memory's mark is not 0, as where an image was loaded into it.
     Marked,
 }
 
 impl Place {
-    // The number of the place: its discriminant.
+    /// The number of the place: its discriminant (docs/refusals.md).
     pub fn number(self) -> u32
         ensures { result ≡ place_number self }
     {
@@ -57,7 +62,7 @@ impl Place {
 }
 
 impl LoadRefusal {
-    // The number of the refusal: a match, since a case with fields has no discriminant to cast.
+    /// The number of the refusal (docs/refusals.md).
     pub fn number(self) -> u32
         ensures { result ≡ load_number self }
     {
@@ -72,7 +77,7 @@ impl LoadRefusal {
         }
     }
 
-    // What the refusal carries: the block, or the number of the place.
+    /// What the refusal carries: the number of the block, or of the place; else none (docs/refusals.md).
     pub fn detail(self) -> Option<u64>
         ensures { result ≡ load_detail self }
     {
@@ -88,7 +93,7 @@ impl LoadRefusal {
     }
 }
 
-// As that of every refusal: a Display for all types of a trait is not to be had.
+// `refused`, the number and the reason.
 impl fmt::Display for LoadRefusal {
     ghost output = { λ refusal. Some (load_text refusal) };
 
@@ -120,7 +125,7 @@ impl fmt::Display for LoadRefusal {
 
 impl Error for LoadRefusal {}
 
-// A start's refusals are among those of load.
+// The refusals of the memory are among those of load.
 impl From<StartRefusal> for LoadRefusal {
     ghost from_gives = { λ refusal e. e ≡ of_start refusal };
 

@@ -8,13 +8,13 @@ use crate::bytes::byte;
 fn is_used(mark: u32, index: usize) -> bool
     ensures { result ≡ is_used mark index }
 {
-    let (block, place) = (index / 128, index % 128);
-    if place == 127 {
+    let (block, in_block) = (index / 128, index % 128);
+    if in_block == 127 {
         true
     } else if block == 0 {
-        place < 6
+        in_block < 6
     } else {
-        127 * (block - 1) + place < mark as usize
+        127 * (block - 1) + in_block < mark as usize
     }
 }
 
@@ -25,7 +25,7 @@ fn is_clean(mark: u32, bytes: &[u8], at: usize) -> bool
     is_used(mark, at / 4) || byte(bytes, at) == 0
 }
 
-// Whether all of them are.
+// Whether all bytes are used or zero.
 pub(crate) fn all_clean(mark: u32, bytes: &[u8]) -> bool
     ensures { result ≡ all_clean mark bytes.now }
 {

@@ -10,13 +10,12 @@ use Rattle.instructions.specs.declared.shapes.Variable.{Variable}
 use Rattle.instructions.specs.declared.shapes.Way.{Way}
 use Rattle.instructions.specs.declared.shapes.Way.TheVariants.{On, Branch, Return, Call}
 use Rattle.instructions.specs.declared.shapes.Shape.{Shape}
-use Rattle.instructions.specs.Machine.{Ijvm, byte_at, short_at, in_code, is_variable, link_of, top_of, second_of, method_of, params_of}
+use Rattle.instructions.specs.Ijvm.{Ijvm, byte_at, short_at, in_code, is_variable, link_of, top_of, second_of, method_of, params_of}
 use Rattle.instructions.specs.Table.{row_of, shape_of, variable_of, next_pc}
 use Rattle.instructions.specs.Opcodes.{Entry, entries, find, opcode_of}
 use Rattle.instructions.specs.Step.{wide_of, case_of, callable, has_variable, was_called, lands_in, checks_of, allowed_of, unless_refused, checked_case, step_of}
 use Rattle.instructions.proofs.Pairs.{◌⨾◌}
-use Rattle.instructions.specs.Checks.{first_refusal}
-use Rattle.instructions.proofs.Checked.{AllPass, all_pass, none_refuses}
+use Rattle.instructions.proofs.Checked.{all_pass, none_refuses}
 use Rattle.instructions.specs.Applies.{Condition, InPool, Callable, VariableAt, HasVariable, WasCalled, LandsIn, Allowed, Applies, PerformedWhereItApplies}
 
 -- A refusal is no success.
@@ -26,27 +25,27 @@ not_ok r a e = let z : ◌≡◌ {A = ℕ} 0 1 = cc in omega arith
 -- A test is true exactly where a fact holds.
 pub record Tests (test : Bool) (Fact : Type 0) : Type 0 where
   pub holds : test ≡ true → Fact
-  pub shows : Fact → test ≡ true
+  pub decides : Fact → test ≡ true
 
 always : Tests true (Unit {0})
-always = record { holds = λ _. tt; shows = λ _. refl }
+always = record { holds = λ _. tt; decides = λ _. refl }
 
 at_most : (a b : ℕ) → Tests (leb a b) (a ≤ b)
-at_most a b = record { holds = leb-true a b; shows = le-leb a b }
+at_most a b = record { holds = leb-true a b; decides = le-leb a b }
 
 below : (a b : ℕ) → Tests (ltb a b) (a < b)
-below a b = record { holds = ltb-true a b; shows = lt-ltb a b }
+below a b = record { holds = ltb-true a b; decides = lt-ltb a b }
 
 apart : (a b : ℕ) → Tests (not (eqb a b)) (a ≢ b)
 apart a b = record {
   holds = λ e. eqb-false a b (not-true (eqb a b) e);
-  shows = λ n. not_from_false (eqb a b) (ne_eqb a b n);
+  decides = λ n. not_from_false (eqb a b) (ne_eqb a b n);
 }
 
 both : {P Q : Type 0} (x y : Bool) → Tests x P → Tests y Q → Tests (x && y) (P × Q)
 both x y p q = record {
   holds = λ e. (p.holds (and_parts x y e).0, q.holds (and_parts x y e).1);
-  shows = λ f. and_from x y (p.shows f.0) (q.shows f.1);
+  decides = λ f. and_from x y (p.decides f.0) (q.decides f.1);
 }
 
 -- The checks that go by a column of the table.
@@ -76,12 +75,12 @@ module _ (s : Ijvm) where
   return_tests Call = always
 
   landing_tests : (o : Option ℕ) → Tests (lands_in s o) (LandsIn s o)
-  landing_tests None = record { holds = λ e. false≢true e; shows = λ f. absurd f }
+  landing_tests None = record { holds = λ e. false≢true e; decides = λ f. absurd f }
   landing_tests (Some a) = below a (4 * s.mark)
 
--- The eight checks, for any row.
-pub allowed_of_lem : (s : Ijvm) (h : Shape) → allowed_of s h ≡ Ok tt → Allowed s h
-allowed_of_lem s h e =
+-- What the eight checks of a row let pass is allowed.
+pub allowed : (s : Ijvm) (h : Shape) → allowed_of s h ≡ Ok tt → Allowed s h
+allowed s h e =
     let p = all_pass (checks_of s h) e in (
       leb-true _ _ p.0,
       (pool_tests s h.pool).holds p.1.0,
@@ -93,17 +92,18 @@ allowed_of_lem s h e =
       (landing_tests s (next_pc s h.bytes h.way)).holds p.1.1.1.1.1.1.1.0,
     )
 
+-- What is allowed the eight checks of a row let pass.
 pub allows : (s : Ijvm) (h : Shape) → Allowed s h → allowed_of s h ≡ Ok tt
 allows s h a =
     none_refuses (checks_of s h)
     (le-leb _ _ a.0
-    ⨾ (pool_tests s h.pool).shows a.1
-    ⨾ (call_tests s h.way).shows a.2
+    ⨾ (pool_tests s h.pool).decides a.1
+    ⨾ (call_tests s h.way).decides a.2
     ⨾ le-leb _ _ a.3
-    ⨾ (variable_tests s h.variable).shows a.4
-    ⨾ (return_tests s h.way).shows a.5
+    ⨾ (variable_tests s h.variable).decides a.4
+    ⨾ (return_tests s h.way).decides a.5
     ⨾ lt-ltb _ _ a.6
-    ⨾ (landing_tests s (next_pc s h.bytes h.way)).shows a.7
+    ⨾ (landing_tests s (next_pc s h.bytes h.way)).decides a.7
     ⨾ tt)
 
 -- What the opcode at PC says of the case.
@@ -164,33 +164,33 @@ module _ (s : Ijvm) (c : Case) where
       ⨾ alone Goto tt ⨾ alone Ireturn tt ⨾ alone Invokevirtual tt ⨾ wide ⨾ tt
 
 -- A case that applies is the one that the opcode at PC is.
-case_of_lem : (c : Case) (s : Ijvm) → Applies c s → case_of s (opcode_of (byte_at s s.pc)) ≡ Ok c
-case_of_lem Nop s f = rw f.0
-case_of_lem Bipush s f = rw f.0
-case_of_lem LdcW s f = rw f.0
-case_of_lem Iload s f = rw f.0
-case_of_lem Istore s f = rw f.0
-case_of_lem Pop s f = rw f.0
-case_of_lem Dup s f = rw f.0
-case_of_lem Swap s f = rw f.0
-case_of_lem Iadd s f = rw f.0
-case_of_lem Isub s f = rw f.0
-case_of_lem Iand s f = rw f.0
-case_of_lem Ior s f = rw f.0
-case_of_lem Iinc s f = rw f.0
-case_of_lem IfeqFalls s f = rw (f.0, ne_eqb (top_of s) 0 f.1)
-case_of_lem IfeqTaken s f = rw (f.0, eq-eqb (top_of s) 0 f.1)
-case_of_lem IfltFalls s f = rw (f.0, lt-leb (2 ^ 31) (top_of s) f.1)
-case_of_lem IfltTaken s f = rw (f.0, le-leb (2 ^ 31) (top_of s) f.1)
-case_of_lem IfIcmpeqFalls s f = rw (f.0, ne_eqb (second_of s) (top_of s) f.1)
-case_of_lem IfIcmpeqTaken s f = rw (f.0, eq-eqb (second_of s) (top_of s) f.1)
-case_of_lem Goto s f = rw f.0
-case_of_lem Ireturn s f = rw f.0
-case_of_lem Invokevirtual s f = rw f.0
-case_of_lem WideIload s f = rw (f.0, lt-ltb (s.pc + 1) (4 * s.mark) (omega arith), f.1)
-case_of_lem WideIstore s f = rw (f.0, lt-ltb (s.pc + 1) (4 * s.mark) (omega arith), f.1)
+opcode_is : (c : Case) (s : Ijvm) → Applies c s → case_of s (opcode_of (byte_at s s.pc)) ≡ Ok c
+opcode_is Nop s f = rw f.0
+opcode_is Bipush s f = rw f.0
+opcode_is LdcW s f = rw f.0
+opcode_is Iload s f = rw f.0
+opcode_is Istore s f = rw f.0
+opcode_is Pop s f = rw f.0
+opcode_is Dup s f = rw f.0
+opcode_is Swap s f = rw f.0
+opcode_is Iadd s f = rw f.0
+opcode_is Isub s f = rw f.0
+opcode_is Iand s f = rw f.0
+opcode_is Ior s f = rw f.0
+opcode_is Iinc s f = rw f.0
+opcode_is IfeqFalls s f = rw (f.0, ne_eqb (top_of s) 0 f.1)
+opcode_is IfeqTaken s f = rw (f.0, eq-eqb (top_of s) 0 f.1)
+opcode_is IfltFalls s f = rw (f.0, lt-leb (2 ^ 31) (top_of s) f.1)
+opcode_is IfltTaken s f = rw (f.0, le-leb (2 ^ 31) (top_of s) f.1)
+opcode_is IfIcmpeqFalls s f = rw (f.0, ne_eqb (second_of s) (top_of s) f.1)
+opcode_is IfIcmpeqTaken s f = rw (f.0, eq-eqb (second_of s) (top_of s) f.1)
+opcode_is Goto s f = rw f.0
+opcode_is Ireturn s f = rw f.0
+opcode_is Invokevirtual s f = rw f.0
+opcode_is WideIload s f = rw (f.0, lt-ltb (s.pc + 1) (4 * s.mark) (omega arith), f.1)
+opcode_is WideIstore s f = rw (f.0, lt-ltb (s.pc + 1) (4 * s.mark) (omega arith), f.1)
 
--- Both ways.
+-- A step performs a case only where it applies.
 pub applies_of : (c : Case) (s : Ijvm) → step_of s ≡ Ok c → Applies c s
 unfolding step_of
 applies_of c s e = chosen (case_of s (opcode_of (byte_at s s.pc))) refl e
@@ -200,21 +200,22 @@ applies_of c s e = chosen (case_of s (opcode_of (byte_at s s.pc))) refl e
     made d (Ok x) q a h =
         let is : d ≡ c = cc in
         let m = found s d entries (all_say s d) q in
-        subst (λ (k : Case). Applies k s) is (m.0, m.1, allowed_of_lem s (shape_of d) a)
+        subst (λ (k : Case). Applies k s) is (m.0, m.1, allowed s (shape_of d) a)
 
     chosen : (o : Result Case StepRefusal) → case_of s (opcode_of (byte_at s s.pc)) ≡ o → checked_case s o ≡ Ok c → Applies c s
     chosen (Err r) q h = absurd (not_ok r c h)
     chosen (Ok d) q h = made d (allowed_of s (shape_of d)) q refl h
 
-pub step_of_lem : (c : Case) (s : Ijvm) → Applies c s → step_of s ≡ Ok c
+-- A step performs the case that applies.
+pub step_performs : (c : Case) (s : Ijvm) → Applies c s → step_of s ≡ Ok c
 unfolding step_of
-step_of_lem c s f = ap (checked_case s) (case_of_lem c s f) ∙ ap (unless_refused c) (allows s (shape_of c) f.2)
+step_performs c s f = ap (checked_case s) (opcode_is c s f) ∙ ap (unless_refused c) (allows s (shape_of c) f.2)
 
 -- At most one case applies.
 one_case : (c : Case) (s : Ijvm) (d : Case) → Applies c s → Applies d s → d ≡ c
 one_case c s d f g =
-    let e : Ok d ≡ Ok c = sym (step_of_lem d s g) ∙ step_of_lem c s f in
+    let e : Ok d ≡ Ok c = sym (step_performs d s g) ∙ step_performs c s f in
     cc e
 
 pub applied : (c : Case) → PerformedWhereItApplies c
-applied c = record { applies = applies_of c; performs = step_of_lem c; only = one_case c }
+applied c = record { applies = applies_of c; performs = step_performs c; only = one_case c }

@@ -1,7 +1,7 @@
 -- A branch's target: the exact sum, and the sum modulo 2^32 that the cycles compute.
 use Rattle.std.proofs.Common.{◌≡◌, ℕ, ◌+◌, ◌-◌, ◌*◌, ◌%◌, ◌^◌, ◌<◌, ◌≤◌, Bool, true, false, cond, leb, Some, None, refl, arith, leb-true}
 use Rattle.datapath.specs.Cycle.{arriving}
-use Rattle.instructions.specs.Machine.{Ijvm, byte_at, short_at, target_of}
+use Rattle.instructions.specs.Ijvm.{Ijvm, byte_at, short_at, target_of}
 use Rattle.instructions.specs.Applies.{LandsIn}
 use Rattle.instructions.proofs.Bytes.{byte_below}
 use Rattle.instructions.proofs.Steady.{lands}
@@ -14,7 +14,7 @@ branch_to s = arriving (target_of s) 0
 pub branch_in_code : (s : Ijvm) → LandsIn s (target_of s) → branch_to s < 4 * s.mark
 branch_in_code s l = lands s (target_of s) l
 
-module _ (s : Ijvm) (so : LaidOut s) (whole : s.pc + 3 ≤ 4 * s.mark) where
+module _ (s : Ijvm) (so : LaidOut s) (in_code : s.pc + 3 ≤ 4 * s.mark) where
   abbrev offset : ℕ
   offset = short_at s (s.pc + 1)
 

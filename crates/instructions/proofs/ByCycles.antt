@@ -1,5 +1,5 @@
 -- Cycles by what each is given: who proves names the values, and the state is computed.
--- `Cycles store k m P` asks, cycle by cycle, for the value on the C bus where a register is loaded, for the byte at a dispatch, the flag at a jump, and what arrives from the memory with the proof that it is
+-- `Cycles store k m P` asks, cycle by cycle, for the value on the C bus where a register is written, for the byte at a dispatch, the flag at a jump, and what arrives from the memory with the proof that it is
 -- there; at the end it asks for P of the machine. Each part of the state passes through a function of its own, so that it stays a short term after any number of cycles.
 use Rattle.std.proofs.Common.{◌≡◌, ℕ, zero, suc, ◌+◌, ◌/◌, ◌%◌, ◌^◌, ◌<◌, ◌≤◌, Bool, true, false, cond, ◌||◌, eqb, List, get_or, set, Some, None, Ok, Option, sym, refl, ap, ◌∙◌, subst, arith, le-ltb}
 use borrow.Author.Tests.{lt-leb}
@@ -11,20 +11,21 @@ use Rattle.datapath.specs.declared.machine_state.State.{State}
 use Rattle.datapath.specs.declared.pending.DataAccess.{DataAccess}
 use Rattle.datapath.specs.declared.pending.DataAccess.TheVariants.{Read as Reading, Write as Writing}
 use Rattle.datapath.specs.declared.pending.FetchAccess.{FetchAccess}
-use Rattle.datapath.specs.Cycle.{Micro, result_in, c_bus_in, successor_of, successor_in, fetched_of, accessed_of, completed_of, loaded_of, arriving, arrived_of, begun_data, begun_fetch, cycle_of}
-use Rattle.datapath.specs.Go.{Gone, later, go_on, go_of}
-use Rattle.instructions.specs.Machine.{byte_of}
+use Rattle.datapath.specs.Cycle.{Micro, result_in, c_bus_in, successor_of, successor_in, fetched_of, accessed_of, completed_of, written_from_c_bus, arriving, arrived_of, begun_data, begun_fetch, cycle_of}
+use Rattle.datapath.specs.Go.{CyclesDone, preceded_by, go_by, go_of}
+use Rattle.instructions.specs.Ijvm.{byte_of}
 
--- A number in a form of the prover's choice, where it is asked for; a flag likewise.
+-- A number in a form of the prover's choice, where it is asked for.
 abbrev Value : Bool → ℕ → (ℕ → Type 0) → Type 0
 Value true x P = (y : ℕ) × ((x ≡ y) × P y)
 Value false x P = P x
 
+-- A flag in a form of the prover's choice, where it is asked for.
 abbrev Flag : Bool → Bool → (Bool → Type 0) → Type 0
 Flag true x P = (y : Bool) × ((x ≡ y) × P y)
 Flag false x P = P x
 
--- The same number, with its computation forgotten.
+-- A number that is known, without how it was computed.
 abbrev Literal : ℕ → (ℕ → Type 0) → Type 0
 Literal zero P = P zero
 Literal (suc n) P = P (suc n)
@@ -105,12 +106,12 @@ abbrev pub landed : ControlWord → State → (c next : ℕ) → (byte word : Op
 landed w s c next byte word memory = record {
   memory = memory;
   state = record {
-    registers = arrived_of (loaded_of w s.registers c) word;
+    registers = arrived_of (written_from_c_bus w s.registers c) word;
     mbr = arriving byte s.mbr;
     mpc = next;
     counter = (s.counter + 1) % 2 ^ 64;
-    access = begun_data w (arrived_of (loaded_of w s.registers c) word) s.mpc;
-    fetch = begun_fetch w (arrived_of (loaded_of w s.registers c) word) s.mpc;
+    access = begun_data w (arrived_of (written_from_c_bus w s.registers c) word) s.mpc;
+    fetch = begun_fetch w (arrived_of (written_from_c_bus w s.registers c) word) s.mpc;
   };
 }
 
@@ -194,9 +195,9 @@ module _ (w : ControlWord) (s : State) (Q : Micro → Type 0) (c : ℕ) (byte wo
       let p₁₁ = begins_data w.write w.read mar mdr s.mpc (L11 mar mdr pc h opc tos cpp lv sp mbr) p₁₀ in
       begins_fetch w.fetch pc s.mpc (L12 mar mdr pc h opc tos cpp lv sp mbr (cond w.write (Some (Writing mar s.mpc mdr)) (cond w.read (Some (Reading mar s.mpc)) None))) p₁₁
 
--- The C bus is named where a register is loaded.
-abbrev loads : ControlWord → Bool
-loads w = w.c.h || (w.c.opc || (w.c.tos || (w.c.cpp || (w.c.lv || (w.c.sp || (w.c.pc || (w.c.mdr || w.c.mar)))))))
+-- The C bus is named where a register is written.
+abbrev writes_a_register : ControlWord → Bool
+writes_a_register w = w.c.h || (w.c.opc || (w.c.tos || (w.c.cpp || (w.c.lv || (w.c.sp || (w.c.pc || (w.c.mdr || w.c.mar)))))))
 
 module _ (w : ControlWord) (m : Micro) (Q : Micro → Type 0) where
   abbrev AfterData : (c b : ℕ) (n z : Bool) (byte : Option ℕ) → Option ℕ → Meaning → Type 0
@@ -218,7 +219,7 @@ module _ (w : ControlWord) (m : Micro) (Q : Micro → Type 0) where
   AfterBus c = Value w.jmpc m.state.mbr (AfterMbr c)
 
   abbrev Cycle : Type 0
-  Cycle = Value (loads w) (c_bus_in w m.state) AfterBus
+  Cycle = Value (writes_a_register w) (c_bus_in w m.state) AfterBus
 
 abbrev pub Cycles : List ℕ → ℕ → Micro → (Micro → Type 0) → Type 0
 Cycles store zero m P = P m
@@ -240,7 +241,7 @@ cycled store m Q p =
     let b = m.state.mbr in
     let n = negative r in
     let z = eqb r 0 in
-    let p₁ = value (loads w) c (AfterBus w m Q) p in
+    let p₁ = value (writes_a_register w) c (AfterBus w m Q) p in
     let p₂ = value w.jmpc b (AfterMbr w m Q c) p₁ in
     let p₃ = flag w.jamn n (AfterN w m Q c b) p₂ in
     let p₄ = flag w.jamz z (AfterZ w m Q c b n) p₃ in
@@ -250,10 +251,10 @@ cycled store m Q p =
     (landed w m.state c (successor_of w b n z) f.0 d.0 d.1, cycle_lands store m f.0 d.0 d.1 f.1 d.2 d.3, refl, q)
 
 -- What cycles come to, none of them refused.
-abbrev pub all_done : ℕ → Micro → Gone
+abbrev pub all_done : ℕ → Micro → CyclesDone
 all_done k after = record { done = k; fault = None; after = after }
 
--- The counter after cycles, and the same as one sum.
+-- The counter after so many cycles, and that it is one sum modulo 2^64.
 abbrev counter_after : ℕ → ℕ → ℕ
 counter_after zero c = c
 counter_after (suc k) c = counter_after k ((c + 1) % 2 ^ 64)
@@ -262,7 +263,7 @@ pub counted_sum : (k c : ℕ) → counter_after (suc k) c ≡ (c + suc k) % 2 ^ 
 counted_sum zero c = refl
 counted_sum (suc k) c = counted_sum k ((c + 1) % 2 ^ 64) ∙ omega arith
 
-pub record Went (store : List ℕ) (k : ℕ) (m : Micro) (P : Micro → Type 0) : Type 0 where
+pub record LeadsTo (store : List ℕ) (k : ℕ) (m : Micro) (P : Micro → Type 0) : Type 0 where
   pub after : Micro
   pub reaches : go_of store k m ≡ all_done k after
   pub holds : P after
@@ -271,9 +272,9 @@ pub record Went (store : List ℕ) (k : ℕ) (m : Micro) (P : Micro → Type 0) 
 -- One cycle, and then others.
 pub one_more : (store : List ℕ) (k : ℕ) (m next after : Micro) → cycle_of store m ≡ Ok next → go_of store k next ≡ all_done k after → go_of store (suc k) m ≡ all_done (suc k) after
 one_more store k m next after e f =
-    ap (go_on (go_of store k) m) e ∙ ap (later 1) f ∙ ap (λ d. all_done d after) {x = 1 + k} {y = suc k} (omega arith)
+    ap (go_by (go_of store k) m) e ∙ ap (preceded_by 1) f ∙ ap (λ d. all_done d after) {x = 1 + k} {y = suc k} (omega arith)
 
-pub goes : (store : List ℕ) (k : ℕ) (m : Micro) (P : Micro → Type 0) → Cycles store k m P → Went store k m P
+pub goes : (store : List ℕ) (k : ℕ) (m : Micro) (P : Micro → Type 0) → Cycles store k m P → LeadsTo store k m P
 goes store zero m P p = record { after = m; reaches = refl; holds = p; counted = refl }
 goes store (suc k) m P p =
     let Q : Micro → Type 0 = λ next. Cycles store k next P in

@@ -1,7 +1,7 @@
 -- Bytes of the machine's words.
 use Rattle.std.proofs.Common.{ℕ, ◌+◌, ◌-◌, ◌^◌, ◌<◌, Bool, true, false, cond, leb, List, arith}
 use Rattle.control.specs.Bus.{signed}
-use Rattle.instructions.specs.Machine.{byte_of}
+use Rattle.instructions.specs.Ijvm.{byte_of}
 
 pub byte_below : (ws : List ℕ) (a : ℕ) → byte_of ws a < 256
 unfolding byte_of

@@ -4,21 +4,21 @@ use lib.Bits.{or_shifted}
 use Rattle.datapath.specs.Cycle.{Micro}
 use Rattle.microprogram.specs.Listing.{listing}
 use Rattle.microprogram.specs.Listing.Labels.{address}
-use Rattle.microprogram.specs.Listing.Lines.{held, word}
+use Rattle.microprogram.specs.Listing.Lines.{listed_number, word}
 use Rattle.microprogram.specs.Published.{published}
 use Rattle.instructions.specs.declared.cases.Case.TheVariants.{Ireturn, Invokevirtual}
-use Rattle.instructions.specs.Machine.{Ijvm, word_at, byte_of, byte_at, link_of, base_of, top_of, method_of}
+use Rattle.instructions.specs.Ijvm.{Ijvm, word_at, byte_of, byte_at, link_of, base_of, top_of, method_of}
 use Rattle.instructions.specs.Table.{effect_of}
 use Rattle.instructions.specs.Applies.{Applies}
-use Rattle.instructions.specs.Stands.{Stands, Takes}
+use Rattle.instructions.specs.StandsFor.{StandsFor, Takes}
 use Rattle.instructions.proofs.Pairs.{◌⨾◌}
 use Rattle.instructions.proofs.Bytes.{byte_below}
 use Rattle.instructions.proofs.ByCycles.{Cycles}
 use Rattle.instructions.proofs.LaidOut.{LaidOut}
 use Rattle.instructions.proofs.Main1.{takes, dispatched, stood, byte_set}
 
-pub ireturn_runs : (s : Ijvm) (m : Micro) → LaidOut s → Stands m s → Applies Ireturn s → Takes 9 m (effect_of Ireturn s)
-unfolding published held address listing word
+pub ireturn_runs : (s : Ijvm) (m : Micro) → LaidOut s → StandsFor m s → Applies Ireturn s → Takes 9 m (effect_of Ireturn s)
+unfolding published listed_number address listing word
 ireturn_runs s m so st f =
     let link : ℕ = link_of s in
     let t : m.state.registers.tos ≡ top_of s = st.same_top (omega arith) in
@@ -66,8 +66,8 @@ module _ (s : Ijvm) (m : Micro) (so : LaidOut s) (d₁ d₂ mm p₁ p₂ l₁ l�
     abbrev called : Ijvm
     called = record { pc = mm + 4; sp = li + 1; lv = fr; words = ws₃; cpp = s.cpp; pool = s.pool; mark = s.mark }
 
-    calls : li + 1 < length s.words → Cycles published 22 (dispatched s m 0xb6) (λ m'. Stands m' called)
-    unfolding published held address listing word
+    calls : li + 1 < length s.words → Cycles published 22 (dispatched s m 0xb6) (λ m'. StandsFor m' called)
+    unfolding published listed_number address listing word
     calls room =
         let n₁ : length ws₁ ≡ length s.words = length-set s.words fr li in
         let n₂ : length ws₂ ≡ length ws₁ = length-set ws₁ li (s.pc + 3) in
@@ -114,7 +114,7 @@ module _ (s : Ijvm) (m : Micro) (so : LaidOut s) (d₁ d₂ mm p₁ p₂ l₁ l�
         ⨾ stood refl refl refl refl refl refl refl refl tt refl (λ (h : base_of called + 1 ≤ li + 1). absurd (omega (arith, linked))))
 
 -- TOS holds the new LV then, and the called method's operand stack is empty.
-pub invoke_runs : (s : Ijvm) (m : Micro) → LaidOut s → Stands m s → Applies Invokevirtual s → Takes 23 m (effect_of Invokevirtual s)
+pub invoke_runs : (s : Ijvm) (m : Micro) → LaidOut s → StandsFor m s → Applies Invokevirtual s → Takes 23 m (effect_of Invokevirtual s)
 invoke_runs s m so st f =
     takes 21 s (effect_of Invokevirtual s) m 0xb6 st f.0 (omega arith)
     (calls s m so (byte_at s (s.pc + 1)) (byte_at s (s.pc + 1 + 1)) (method_of s) (byte_at s (method_of s)) (byte_at s (method_of s + 1))

@@ -1,5 +1,5 @@
 -- Nothing is refused exactly where all checks pass.
-use Rattle.std.proofs.Common.{◌≡◌, Bool, true, false, List, [], ◌∷◌, Ok, Err, Result, refl}
+use Rattle.std.proofs.Common.{◌≡◌, Bool, true, false, List, [], ◌∷◌, Ok, refl}
 use Rattle.instructions.specs.Checks.{Check, checked, first_refusal}
 
 abbrev pub AllPass : {R : Type 0} → List (Check R) → Type 0

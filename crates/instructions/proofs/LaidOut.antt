@@ -1,6 +1,6 @@
 -- Where the parts of a sound state lie.
 use Rattle.std.proofs.Common.{◌+◌, ◌<◌, ◌≤◌, arith}
-use Rattle.instructions.specs.Machine.{Ijvm, size_of, link_of, base_of}
+use Rattle.instructions.specs.Ijvm.{Ijvm, size_of, link_of, base_of}
 use Rattle.instructions.specs.Sound.{Sound}
 use Rattle.instructions.proofs.Steady.{own_link, over_mark}
 

@@ -6,13 +6,13 @@ use Rattle.control.specs.Bus.{signed}
 use Rattle.datapath.specs.Cycle.{Micro}
 use Rattle.microprogram.specs.Listing.{listing}
 use Rattle.microprogram.specs.Listing.Labels.{address}
-use Rattle.microprogram.specs.Listing.Lines.{held, word}
+use Rattle.microprogram.specs.Listing.Lines.{listed_number, word}
 use Rattle.microprogram.specs.Published.{published}
 use Rattle.instructions.specs.declared.cases.Case.TheVariants.{Nop, Bipush, LdcW, Iload, Istore, Pop, Dup, Swap, Iadd, Isub, Iand, Ior, Iinc, IfeqFalls, IfeqTaken, IfltFalls, IfltTaken, IfIcmpeqFalls, IfIcmpeqTaken, Goto, WideIload, WideIstore}
-use Rattle.instructions.specs.Machine.{Ijvm, word_at, byte_of, byte_at, base_of, top_of, second_of, target_of}
+use Rattle.instructions.specs.Ijvm.{Ijvm, word_at, byte_of, byte_at, base_of, top_of, second_of, target_of}
 use Rattle.instructions.specs.Table.{effect_of}
 use Rattle.instructions.specs.Applies.{Applies, LandsIn}
-use Rattle.instructions.specs.Stands.{Stands, Takes}
+use Rattle.instructions.specs.StandsFor.{StandsFor, Takes}
 use Rattle.instructions.proofs.Pairs.{◌⨾◌}
 use Rattle.instructions.proofs.Bytes.{byte_below}
 use Rattle.instructions.proofs.ByCycles.{Cycles}
@@ -23,16 +23,16 @@ use Rattle.instructions.proofs.Main1.{takes, stood, byte_set, signed_high, signe
 swap_sum : (x y : ℕ) → (x + y + 0) % 2 ^ 32 ≡ (y + x) % 2 ^ 32
 swap_sum x y = omega arith
 
-module _ (s : Ijvm) (m : Micro) (so : LaidOut s) (st : Stands m s) where
+module _ (s : Ijvm) (m : Micro) (so : LaidOut s) (st : StandsFor m s) where
   pub nop_runs : Applies Nop s → Takes 2 m (effect_of Nop s)
-  unfolding published held address listing word
+  unfolding published listed_number address listing word
   nop_runs f =
       takes 0 s (effect_of Nop s) m 0 st f.0 (omega arith)
       (byte_at s (s.pc + 1) ⨾ omega arith ⨾ refl
       ⨾ stood refl refl refl refl refl refl refl refl tt refl st.same_top)
 
   pub bipush_runs : Applies Bipush s → Takes 4 m (effect_of Bipush s)
-  unfolding published held address listing word
+  unfolding published listed_number address listing word
   bipush_runs f =
       let b : ℕ = byte_at s (s.pc + 1) in
       let v : ℕ = signed b in
@@ -46,7 +46,7 @@ module _ (s : Ijvm) (m : Micro) (so : LaidOut s) (st : Stands m s) where
       (λ _. sym (get_or-set_same s.words (s.sp + 1) v 0 (omega arith))))
 
   pub ldc_runs : Applies LdcW s → Takes 8 m (effect_of LdcW s)
-  unfolding published held address listing word
+  unfolding published listed_number address listing word
   ldc_runs f =
       let b₁ : ℕ = byte_at s (s.pc + 1) in
       let b₂ : ℕ = byte_at s (s.pc + 1 + 1) in
@@ -71,7 +71,7 @@ module _ (s : Ijvm) (m : Micro) (so : LaidOut s) (st : Stands m s) where
       (λ _. sym (get_or-set_same s.words (s.sp + 1) v 0 (omega arith))))
 
   pub iload_runs : Applies Iload s → Takes 6 m (effect_of Iload s)
-  unfolding published held address listing word
+  unfolding published listed_number address listing word
   iload_runs f =
       let n : ℕ = byte_at s (s.pc + 1) in
       let v : ℕ = word_at s (s.lv + n) in
@@ -89,7 +89,7 @@ module _ (s : Ijvm) (m : Micro) (so : LaidOut s) (st : Stands m s) where
       (λ _. sym (get_or-set_same s.words (s.sp + 1) v 0 (omega arith))))
 
   pub istore_runs : Applies Istore s → Takes 7 m (effect_of Istore s)
-  unfolding published held address listing word
+  unfolding published listed_number address listing word
   istore_runs f =
       let n : ℕ = byte_at s (s.pc + 1) in
       let a : ℕ = s.lv + n in
@@ -109,7 +109,7 @@ module _ (s : Ijvm) (m : Micro) (so : LaidOut s) (st : Stands m s) where
       ⨾ stood refl refl refl refl refl refl refl refl tt refl (λ _. refl))
 
   pub pop_runs : Applies Pop s → Takes 4 m (effect_of Pop s)
-  unfolding published held address listing word
+  unfolding published listed_number address listing word
   pop_runs f =
       takes 2 s (effect_of Pop s) m 0x57 st f.0 (omega arith)
       (s.sp - 1 ⨾ omega arith
@@ -119,7 +119,7 @@ module _ (s : Ijvm) (m : Micro) (so : LaidOut s) (st : Stands m s) where
       ⨾ stood refl refl refl refl refl refl refl refl tt refl (λ _. refl))
 
   pub dup_runs : Applies Dup s → Takes 3 m (effect_of Dup s)
-  unfolding published held address listing word
+  unfolding published listed_number address listing word
   dup_runs f =
       let t : m.state.registers.tos ≡ top_of s = st.same_top (omega arith) in
       takes 1 s (effect_of Dup s) m 0x59 st f.0 (omega arith)
@@ -130,7 +130,7 @@ module _ (s : Ijvm) (m : Micro) (so : LaidOut s) (st : Stands m s) where
       (λ _. t ∙ sym (get_or-set_same s.words (s.sp + 1) (top_of s) 0 (omega arith))))
 
   pub swap_runs : Applies Swap s → Takes 7 m (effect_of Swap s)
-  unfolding published held address listing word
+  unfolding published listed_number address listing word
   swap_runs f =
       let ws : List ℕ = set s.words s.sp (second_of s) in
       let len : length ws ≡ length s.words = length-set s.words s.sp (second_of s) in
@@ -154,7 +154,7 @@ module _ (s : Ijvm) (m : Micro) (so : LaidOut s) (st : Stands m s) where
 
   -- the four that join the two words on top: k is the opcode, v the result
   pub iadd_runs : Applies Iadd s → Takes 4 m (effect_of Iadd s)
-  unfolding published held address listing word
+  unfolding published listed_number address listing word
   iadd_runs f =
       let v : ℕ = (second_of s + top_of s) % 2 ^ 32 in
       takes 2 s (effect_of Iadd s) m 0x60 st f.0 (omega arith)
@@ -167,7 +167,7 @@ module _ (s : Ijvm) (m : Micro) (so : LaidOut s) (st : Stands m s) where
       (λ _. sym (get_or-set_same s.words (s.sp - 1) v 0 (omega arith))))
 
   pub isub_runs : ((a : ℕ) → word_at s a < 2 ^ 32) → Applies Isub s → Takes 4 m (effect_of Isub s)
-  unfolding published held address listing word
+  unfolding published listed_number address listing word
   isub_runs word f =
       let v : ℕ = (second_of s + (2 ^ 32 - top_of s)) % 2 ^ 32 in
       takes 2 s (effect_of Isub s) m 0x64 st f.0 (omega arith)
@@ -180,7 +180,7 @@ module _ (s : Ijvm) (m : Micro) (so : LaidOut s) (st : Stands m s) where
       (λ _. sym (get_or-set_same s.words (s.sp - 1) v 0 (omega arith))))
 
   pub iand_runs : Applies Iand s → Takes 4 m (effect_of Iand s)
-  unfolding published held address listing word
+  unfolding published listed_number address listing word
   iand_runs f =
       let v : ℕ = bit_and (second_of s) (top_of s) in
       takes 2 s (effect_of Iand s) m 0x7e st f.0 (omega arith)
@@ -193,7 +193,7 @@ module _ (s : Ijvm) (m : Micro) (so : LaidOut s) (st : Stands m s) where
       (λ _. sym (get_or-set_same s.words (s.sp - 1) v 0 (omega arith))))
 
   pub ior_runs : Applies Ior s → Takes 4 m (effect_of Ior s)
-  unfolding published held address listing word
+  unfolding published listed_number address listing word
   ior_runs f =
       let v : ℕ = bit_or (second_of s) (top_of s) in
       takes 2 s (effect_of Ior s) m 0x80 st f.0 (omega arith)
@@ -206,7 +206,7 @@ module _ (s : Ijvm) (m : Micro) (so : LaidOut s) (st : Stands m s) where
       (λ _. sym (get_or-set_same s.words (s.sp - 1) v 0 (omega arith))))
 
   pub iinc_runs : Applies Iinc s → Takes 7 m (effect_of Iinc s)
-  unfolding published held address listing word
+  unfolding published listed_number address listing word
   iinc_runs f =
       let n : ℕ = byte_at s (s.pc + 1) in
       let a : ℕ = s.lv + n in
@@ -230,7 +230,7 @@ module _ (s : Ijvm) (m : Micro) (so : LaidOut s) (st : Stands m s) where
       st.same_top (omega (arith, get_or-set_other s.words a s.lv v 0 ne₀)) ∙ sym (get_or-set_other s.words a s.sp v 0 ne)))
 
   pub ifeq_falls_runs : Applies IfeqFalls s → Takes 8 m (effect_of IfeqFalls s)
-  unfolding published held address listing word
+  unfolding published listed_number address listing word
   ifeq_falls_runs f =
       takes 6 s (effect_of IfeqFalls s) m 0x99 st f.0 (omega arith)
       (s.sp - 1 ⨾ omega arith
@@ -245,7 +245,7 @@ module _ (s : Ijvm) (m : Micro) (so : LaidOut s) (st : Stands m s) where
       ⨾ stood refl refl refl refl refl refl refl refl tt refl (λ _. refl))
 
   pub iflt_falls_runs : Applies IfltFalls s → Takes 8 m (effect_of IfltFalls s)
-  unfolding published held address listing word
+  unfolding published listed_number address listing word
   iflt_falls_runs f =
       takes 6 s (effect_of IfltFalls s) m 0x9b st f.0 (omega arith)
       (s.sp - 1 ⨾ omega arith
@@ -260,7 +260,7 @@ module _ (s : Ijvm) (m : Micro) (so : LaidOut s) (st : Stands m s) where
       ⨾ stood refl refl refl refl refl refl refl refl tt refl (λ _. refl))
 
   pub icmpeq_falls_runs : ((a : ℕ) → word_at s a < 2 ^ 32) → Applies IfIcmpeqFalls s → Takes 10 m (effect_of IfIcmpeqFalls s)
-  unfolding published held address listing word
+  unfolding published listed_number address listing word
   icmpeq_falls_runs word f =
       let h₁ : top_of s < 2 ^ 32 = word s.sp in
       let h₂ : second_of s < 2 ^ 32 = word (s.sp - 1) in
@@ -281,7 +281,7 @@ module _ (s : Ijvm) (m : Micro) (so : LaidOut s) (st : Stands m s) where
       ⨾ stood refl refl refl refl refl refl refl refl tt refl (λ _. refl))
 
   pub wide_iload_runs : Applies WideIload s → Takes 10 m (effect_of WideIload s)
-  unfolding published held address listing word
+  unfolding published listed_number address listing word
   wide_iload_runs f =
       let b₁ : ℕ = byte_at s (s.pc + 2) in
       let b₂ : ℕ = byte_at s (s.pc + 2 + 1) in
@@ -309,7 +309,7 @@ module _ (s : Ijvm) (m : Micro) (so : LaidOut s) (st : Stands m s) where
       (λ _. sym (get_or-set_same s.words (s.sp + 1) v 0 (omega arith))))
 
   pub wide_istore_runs : Applies WideIstore s → Takes 11 m (effect_of WideIstore s)
-  unfolding published held address listing word
+  unfolding published listed_number address listing word
   wide_istore_runs f =
       let b₁ : ℕ = byte_at s (s.pc + 2) in
       let b₂ : ℕ = byte_at s (s.pc + 2 + 1) in
@@ -349,8 +349,8 @@ module _ (s : Ijvm) (m : Micro) (so : LaidOut s) (st : Stands m s) where
           access = None;
           fetch = None;
         };
-      }) (λ m'. Stands m' (record { pc = branch_to s; sp = sp; lv = s.lv; words = s.words; cpp = s.cpp; pool = s.pool; mark = s.mark }))
-  unfolding published held address listing word
+      }) (λ m'. StandsFor m' (record { pc = branch_to s; sp = sp; lv = s.lv; words = s.words; cpp = s.cpp; pool = s.pool; mark = s.mark }))
+  unfolding published listed_number address listing word
   branches h tos sp mdr mar counter inside code t =
       let b₁ : ℕ = byte_at s (s.pc + 1) in
       let b₂ : ℕ = byte_at s (s.pc + 1 + 1) in
@@ -366,7 +366,7 @@ module _ (s : Ijvm) (m : Micro) (so : LaidOut s) (st : Stands m s) where
       ⨾ stood refl refl refl refl refl refl refl refl tt refl t
 
   pub goto_runs : Applies Goto s → Takes 7 m (effect_of Goto s)
-  unfolding published held address listing word
+  unfolding published listed_number address listing word
   goto_runs f =
       takes 5 s (effect_of Goto s) m 0xa7 st f.0 (omega arith)
       (s.pc ⨾ omega arith
@@ -374,7 +374,7 @@ module _ (s : Ijvm) (m : Micro) (so : LaidOut s) (st : Stands m s) where
       ⨾ branches m.state.registers.h m.state.registers.tos s.sp m.state.registers.mdr m.state.registers.mar _ f.2.7 f.2.0 st.same_top)
 
   pub ifeq_taken_runs : Applies IfeqTaken s → Takes 11 m (effect_of IfeqTaken s)
-  unfolding published held address listing word
+  unfolding published listed_number address listing word
   ifeq_taken_runs f =
       takes 9 s (effect_of IfeqTaken s) m 0x99 st f.0 (omega arith)
       (s.sp - 1 ⨾ omega arith
@@ -387,7 +387,7 @@ module _ (s : Ijvm) (m : Micro) (so : LaidOut s) (st : Stands m s) where
       ⨾ branches m.state.registers.h (second_of s) (s.sp - 1) (second_of s) (s.sp - 1) _ f.2.7 f.2.0 (λ _. refl))
 
   pub iflt_taken_runs : Applies IfltTaken s → Takes 11 m (effect_of IfltTaken s)
-  unfolding published held address listing word
+  unfolding published listed_number address listing word
   iflt_taken_runs f =
       takes 9 s (effect_of IfltTaken s) m 0x9b st f.0 (omega arith)
       (s.sp - 1 ⨾ omega arith
@@ -400,7 +400,7 @@ module _ (s : Ijvm) (m : Micro) (so : LaidOut s) (st : Stands m s) where
       ⨾ branches m.state.registers.h (second_of s) (s.sp - 1) (second_of s) (s.sp - 1) _ f.2.7 f.2.0 (λ _. refl))
 
   pub icmpeq_taken_runs : ((a : ℕ) → word_at s a < 2 ^ 32) → Applies IfIcmpeqTaken s → Takes 13 m (effect_of IfIcmpeqTaken s)
-  unfolding published held address listing word
+  unfolding published listed_number address listing word
   icmpeq_taken_runs word f =
       let h₁ : top_of s < 2 ^ 32 = word s.sp in
       let third : ℕ = word_at s (s.sp - 2) in

@@ -8,10 +8,10 @@ use Rattle.memory.specs.Meaning.{Meaning}
 use Rattle.datapath.specs.Cycle.{Micro, accessed_of, completed_of, cycle_of}
 use Rattle.microprogram.specs.Listing.{listing}
 use Rattle.microprogram.specs.Listing.Labels.{address}
-use Rattle.microprogram.specs.Listing.Lines.{held, word}
+use Rattle.microprogram.specs.Listing.Lines.{listed_number, word}
 use Rattle.microprogram.specs.Published.{published}
-use Rattle.instructions.specs.Machine.{Ijvm, byte_of, byte_at, base_of, top_of}
-use Rattle.instructions.specs.Stands.{settled_words, Settles, Stands, Takes}
+use Rattle.instructions.specs.Ijvm.{Ijvm, byte_of, byte_at, base_of, top_of}
+use Rattle.instructions.specs.StandsFor.{settled_words, Settles, StandsFor, Takes}
 use Rattle.instructions.proofs.ByCycles.{Cycles, cycle_lands, goes, counted_sum, one_more}
 
 -- The machine after Main1: PC one further, the byte at it being fetched, and MPC at the instruction's first line.
@@ -39,7 +39,7 @@ dispatched s m b = record {
 }
 
 main_word : get_or published 0x100 0 ≡ 0x4350211
-unfolding published held address listing word
+unfolding published listed_number address listing word
 main_word = refl
 
 -- What is under way is done without a word arriving.
@@ -48,7 +48,7 @@ settles None m q = (refl, refl)
 settles (Some (Reading a at)) m q = absurd q
 settles (Some (Writing a at v)) m q = (rw (lt-leb _ _ q.1, le-ltb _ _ q.0), rw (lt-leb _ _ q.1, le-ltb _ _ q.0))
 
-main_at : (s : Ijvm) (m : Micro) (b : ℕ) → Stands m s → byte_at s s.pc ≡ b → s.pc + 1 < 2 ^ 32 → cycle_of published m ≡ Ok (dispatched s m b)
+main_at : (s : Ijvm) (m : Micro) (b : ℕ) → StandsFor m s → byte_at s s.pc ≡ b → s.pc + 1 < 2 ^ 32 → cycle_of published m ≡ Ok (dispatched s m b)
 main_at s m b st op small =
     let pc₁ : (0 + s.pc + 1) % 2 ^ 32 ≡ s.pc + 1 = omega arith in
     let d = settles m.state.access m.memory st.settles in
@@ -56,21 +56,21 @@ main_at s m b st op small =
     ∙ rw (st.at_main, main_word, st.same_pc, st.same_sp, st.same_lv, st.same_cpp, st.opcode, op, or_zero_r b, pc₁, st.same_words, st.same_mark)
 
 -- An instruction of k + 2 cycles: what is left after Main1.
-pub takes : (k : ℕ) (s s' : Ijvm) (m : Micro) (b : ℕ) → Stands m s → byte_at s s.pc ≡ b → s.pc + 1 < 2 ^ 32
-    → Cycles published (suc k) (dispatched s m b) (λ m'. Stands m' s') → Takes (suc (suc k)) m s'
+pub takes : (k : ℕ) (s s' : Ijvm) (m : Micro) (b : ℕ) → StandsFor m s → byte_at s s.pc ≡ b → s.pc + 1 < 2 ^ 32
+    → Cycles published (suc k) (dispatched s m b) (λ m'. StandsFor m' s') → Takes (suc (suc k)) m s'
 takes k s s' m b st op small p =
-    let g = goes published (suc k) (dispatched s m b) (λ m'. Stands m' s') p in
+    let g = goes published (suc k) (dispatched s m b) (λ m'. StandsFor m' s') p in
     record {
       after = g.after;
       reaches = one_more published (suc k) m (dispatched s m b) g.after (main_at s m b st op small) g.reaches;
-      stands = g.holds;
+      stands_for = g.holds;
       counted = g.counted ∙ counted_sum (suc k) m.state.counter;
     }
 
 -- The end: a machine that stands for a state, by what it holds.
 pub stood : {m : Micro} {s : Ijvm} → m.state.mpc ≡ 0x100 → m.state.registers.pc ≡ s.pc → m.state.registers.sp ≡ s.sp → m.state.registers.lv ≡ s.lv → m.state.registers.cpp ≡ s.cpp
     → m.memory.mark ≡ s.mark → m.state.mbr ≡ byte_at s s.pc → m.state.fetch ≡ None → Settles m.memory m.state.access
-    → settled_words m.memory m.state.access ≡ s.words → (base_of s + 1 ≤ s.sp → m.state.registers.tos ≡ top_of s) → Stands m s
+    → settled_words m.memory m.state.access ≡ s.words → (base_of s + 1 ≤ s.sp → m.state.registers.tos ≡ top_of s) → StandsFor m s
 stood a b c d e f g h i j k = record {
   at_main = a;
   same_pc = b;

@@ -4,14 +4,14 @@ use Rattle.instructions.specs.declared.cases.Case.{Case}
 use Rattle.instructions.specs.declared.cases.Case.TheVariants.{Ireturn, Invokevirtual}
 use Rattle.instructions.specs.declared.shapes.Way.{Way}
 use Rattle.instructions.specs.declared.shapes.Way.TheVariants.{On, Branch, Return, Call}
-use Rattle.instructions.specs.Machine.{Ijvm, word_at, link_of, top_of, objref_of, new_link_of}
+use Rattle.instructions.specs.Ijvm.{Ijvm, word_at, link_of, top_of, objref_of, new_link_of}
 use Rattle.instructions.specs.Table.{shape_of, new_lv, effect_of}
 use Rattle.instructions.specs.Applies.{Applies}
 use Rattle.instructions.specs.Sound.{Frames, Sound}
-use Rattle.instructions.specs.Performed.{Performs, after}
+use Rattle.instructions.specs.Performed.{Performs, state_after}
 use Rattle.instructions.specs.Nest.{calls, returns, NotReturned, SameBelow, Returned, CallsNest}
 use Rattle.instructions.proofs.Applied.{applies_of}
-use Rattle.instructions.proofs.Steady.{linked, marked, Low, kept, own_link, Spares, Does, does, Placed, placed, rests, called_frames, returned_frames, keeps}
+use Rattle.instructions.proofs.Steady.{linked, marked, FramesRestOn, kept, own_link, SparesFrames, Does, does, CallFrame, call_frame, rests, called_frames, returned_frames, keeps}
 use Rattle.instructions.proofs.Lists.{performs_front, performs_back, sound_after}
 
 -- A frame above the lowest lies above the two words at the lowest one's link.
@@ -35,14 +35,14 @@ record Within (s : Ijvm) (n : ℕ) (u : Ijvm) : Type 0 where
 abbrev OfCall : Ijvm → ℕ → Type 0
 OfCall s i = (i ≤ objref_of s) ⊎ ((new_link_of s ≤ i) × (i ≤ new_link_of s + 1))
 
-low : (n : ℕ) (s u : Ijvm) → Within s n u → (i : ℕ) → OfCall s i → Low u.words u.lv i
+low : (n : ℕ) (s u : Ijvm) → Within s n u → (i : ℕ) → OfCall s i → FramesRestOn u.words u.lv i
 low zero s u w i (inl h) = let e = w.frames.0 in inl (omega arith)
 low zero s u w i (inr h) = let e = w.frames.0 in let k = w.link_is in let d : link_of u ≡ new_link_of s = rw e k in inr (omega arith)
 low (suc n) s u w i (inl h) = let m = marked (suc n) (objref_of s) u.lv u.words w.frames in inl (omega arith)
 low (suc n) s u w i (inr h) = let m = under n (objref_of s) u.lv u.words w.frames in let k = w.link_is in inl (omega arith)
 
--- A call's own facts, and whatever keeps those words.
-module _ (s : Ijvm) (p : Placed s) where
+-- What holds just after a call, and after whatever keeps those words.
+module _ (s : Ijvm) (p : CallFrame s) where
   entered : Within s 0 (effect_of Invokevirtual s)
   entered = record { frames = (refl, rw p.link_is p.below); link_is = p.link_is; pc_is = p.pc_is; lv_is = p.lv_is; same = p.lower }
 
@@ -58,14 +58,14 @@ module _ (s : Ijvm) (p : Placed s) where
       }
 
   -- an instruction of the called method, or of one that it called
-  by_plain : (u : Ijvm) (n : ℕ) (c : Case) → new_lv u (shape_of c).way ≡ u.lv → Spares u (effect_of c u).words → Within s n u → Within s n (effect_of c u)
+  by_plain : (u : Ijvm) (n : ℕ) (c : Case) → new_lv u (shape_of c).way ≡ u.lv → SparesFrames u (effect_of c u).words → Within s n u → Within s n (effect_of c u)
   by_plain u n c e d w =
       carried n n u (effect_of c u) w (λ i h. d.low i (low n s u w i h))
       (rw e (kept n (objref_of s) u.lv u.words (effect_of c u).words d.low w.frames))
 
   by_call : (u : Ijvm) (n : ℕ) → Applies Invokevirtual u → Within s n u → Within s (suc n) (effect_of Invokevirtual u)
   by_call u n f w =
-      let q = placed u f in
+      let q = call_frame u f in
       let l = linked n (objref_of s) u.lv u.words w.frames in
       carried n (suc n) u (effect_of Invokevirtual u) w (λ i h. rests u q l i (low n s u w i h)) (called_frames u q n (objref_of s) w.frames)
 
@@ -100,7 +100,7 @@ module _ (s : Ijvm) (p : Placed s) where
 
   -- all of them, the called method's own return not among them
   all : (since : List Case) (n : ℕ) (u t : Ijvm) → Sound u → Performs since u t → Within s n u
-      → ((between rest : List Case) → since ≡ between ++ (Ireturn ∷ rest) → n + calls between ≢ returns between) → Ends n since (after since u)
+      → ((between rest : List Case) → since ≡ between ++ (Ireturn ∷ rest) → n + calls between ≢ returns between) → Ends n since (state_after since u)
   all [] n u t l r w o = record { pending = n; balance = refl; within = w }
   all (c ∷ cs) n u t l (e, r) w o =
       let f = applies_of c u e in
@@ -120,34 +120,34 @@ module _ (s : Ijvm) (p : Placed s) where
       record {
         same = λ i h. get_or-set_other u.words u.lv i (top_of u) 0 (omega arith) ∙ w.same i h;
         lv_back = rw li w.lv_is;
-        goes_on = rw li w.pc_is;
+        pc_behind_call = rw li w.pc_is;
         sp_at_objref = e;
         value = rw (← e) (get_or-set_same u.words u.lv (top_of u) 0 inside);
       }
 
 -- A call among the instructions, and what was performed since.
-record Since (s : Ijvm) (since : List Case) : Type 0 where
-  pub call : Placed s
-  pub sound : Sound (after since (effect_of Invokevirtual s))
-  pub ends : Ends s call 0 since (after since (effect_of Invokevirtual s))
+record CalledSince (s : Ijvm) (since : List Case) : Type 0 where
+  pub call : CallFrame s
+  pub sound : Sound (state_after since (effect_of Invokevirtual s))
+  pub ends : Ends s call 0 since (state_after since (effect_of Invokevirtual s))
 
 called_since : (start t : Ijvm) (cases before since rest : List Case) → Sound start → Performs cases start t → cases ≡ before ++ (Invokevirtual ∷ (since ++ rest))
-    → NotReturned since → Since (after before start) since
+    → NotReturned since → CalledSince (state_after before start) since
 called_since start t cases before since rest l r e o =
     let tail : List Case = Invokevirtual ∷ (since ++ rest) in
-    let s : Ijvm = after before start in
+    let s : Ijvm = state_after before start in
     let u : Ijvm = effect_of Invokevirtual s in
     let r₁ : Performs (before ++ tail) start t = subst (λ (x : List Case). Performs x start t) e r in
     let r₂ : Performs tail s t = performs_back before tail start t r₁ in
     let l₁ : Sound s = sound_after before start s l (performs_front before tail start t r₁) in
     let f : Applies Invokevirtual s = applies_of Invokevirtual s r₂.0 in
     let l₂ : Sound u = keeps Invokevirtual s l₁ f in
-    let r₃ : Performs since u (after since u) = performs_front since rest u t r₂.1 in
-    let p : Placed s = placed s f in
+    let r₃ : Performs since u (state_after since u) = performs_front since rest u t r₂.1 in
+    let p : CallFrame s = call_frame s f in
     record {
       call = p;
-      sound = sound_after since u (after since u) l₂ r₃;
-      ends = all s p since 0 u (after since u) l₂ r₃ (entered s p) (λ between rest q z. o between rest q (omega arith));
+      sound = sound_after since u (state_after since u) l₂ r₃;
+      ends = all s p since 0 u (state_after since u) l₂ r₃ (entered s p) (λ between rest q z. o between rest q (omega arith));
     }
 
 -- As many calls as returns: none is pending.
@@ -159,8 +159,8 @@ any_calls_nest cases start t l r =
     record {
       inside = λ before since rest e o. (called_since start t cases before since rest l r e o).ends.within.same;
       returned = λ before since rest e o z.
-          let s : Ijvm = after before start in
-          let u : Ijvm = after since (effect_of Invokevirtual s) in
+          let s : Ijvm = state_after before start in
+          let u : Ijvm = state_after since (effect_of Invokevirtual s) in
           let q = called_since start t cases before since (Ireturn ∷ rest) l r e o in
           own s q.call u q.sound (level s u q.ends.pending since q.ends.balance z q.ends.within);
     }

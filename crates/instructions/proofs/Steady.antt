@@ -8,7 +8,7 @@ use Rattle.instructions.specs.declared.cases.Case.{Case}
 use Rattle.instructions.specs.declared.cases.Case.TheVariants.{Nop, Bipush, LdcW, Iload, Istore, Pop, Dup, Swap, Iadd, Isub, Iand, Ior, Iinc, IfeqFalls, IfeqTaken, IfltFalls, IfltTaken, IfIcmpeqFalls, IfIcmpeqTaken, Goto, Ireturn, Invokevirtual, WideIload, WideIstore}
 use Rattle.instructions.specs.declared.shapes.Way.{Way}
 use Rattle.instructions.specs.declared.shapes.Way.TheVariants.{On, Branch, Return, Call}
-use Rattle.instructions.specs.Machine.{Ijvm, size_of, word_at, link_of, base_of, top_of, second_of, objref_of, new_link_of}
+use Rattle.instructions.specs.Ijvm.{Ijvm, size_of, word_at, link_of, base_of, top_of, second_of, objref_of, new_link_of}
 use Rattle.instructions.specs.Table.{row_of, shape_of, entering, leaving, new_sp, next_pc, new_lv, effect_of}
 use Rattle.instructions.specs.Applies.{VariableAt, LandsIn, Applies}
 use Rattle.instructions.specs.Sound.{Frames, Sound}
@@ -16,11 +16,12 @@ use Rattle.instructions.specs.Performed.{StaysSound}
 use Rattle.instructions.proofs.Applied.{applies_of}
 use Rattle.instructions.proofs.Bytes.{byte_below, signed_below}
 
--- A frame's link points above its LV, and the LV is not below the mark.
+-- The link of the frame on top points above its LV.
 pub linked : (n k lv : ℕ) (ws : List ℕ) → Frames n ws k lv → lv < get_or ws lv 0
 linked zero k lv ws (e, l) = l
 linked (suc n) k lv ws (l, o, f) = l
 
+-- The LV of the frame on top is not below the mark.
 pub marked : (n k lv : ℕ) (ws : List ℕ) → Frames n ws k lv → k ≤ lv
 marked zero k lv ws (e, l) = omega arith
 marked (suc n) k lv ws (l, o, f) =
@@ -30,11 +31,11 @@ marked (suc n) k lv ws (l, o, f) =
     omega arith
 
 -- The addresses on which frames rest: all up to LV, and the two words at the link.
-abbrev pub Low : List ℕ → (lv i : ℕ) → Type 0
-Low ws lv i = (i ≤ lv) ⊎ ((get_or ws lv 0 ≤ i) × (i ≤ get_or ws lv 0 + 1))
+abbrev pub FramesRestOn : List ℕ → (lv i : ℕ) → Type 0
+FramesRestOn ws lv i = (i ≤ lv) ⊎ ((get_or ws lv 0 ≤ i) × (i ≤ get_or ws lv 0 + 1))
 
 -- Frames stay where those addresses keep their words.
-pub kept : (n k lv : ℕ) (ws vs : List ℕ) → ((i : ℕ) → Low ws lv i → get_or vs i 0 ≡ get_or ws i 0) → Frames n ws k lv → Frames n vs k lv
+pub kept : (n k lv : ℕ) (ws vs : List ℕ) → ((i : ℕ) → FramesRestOn ws lv i → get_or vs i 0 ≡ get_or ws i 0) → Frames n ws k lv → Frames n vs k lv
 kept zero k lv ws vs same (e, l) = (e, rw (same lv (inl (omega arith))) l)
 kept (suc n) k lv ws vs same (l, o, f) =
     let up : ℕ = get_or ws (get_or ws lv 0 + 1) 0 in
@@ -44,10 +45,11 @@ kept (suc n) k lv ws vs same (l, o, f) =
     let e₃ : get_or vs up 0 ≡ get_or ws up 0 = same up (inl (omega arith)) in
     rw (e₁, e₂, e₃) (l, o, kept n k up ws vs (λ i h. same i (inl (omega arith))) f)
 
--- The same of a sound state's own frame.
+-- The link of a sound state's frame points above its LV.
 pub own_link : (s : Ijvm) → Sound s → s.lv < link_of s
 own_link s r = linked r.calls s.mark s.lv s.words r.frames
 
+-- The LV of a sound state is not below the mark.
 pub over_mark : (s : Ijvm) → Sound s → s.mark ≤ s.lv
 over_mark s r = marked r.calls s.mark s.lv s.words r.frames
 
@@ -60,19 +62,19 @@ bits_set ws a v small w i = elim (ℕ_discrete i a) [ yes e ↦ at (dec_lt a (le
     at (no ge) e = rw (set_out ws a v (omega arith)) (w i)
 
 -- Words that an instruction without a call or return may leave: as many, of 32 bits, and the frames rest on the same.
-pub record Spares (s : Ijvm) (ws : List ℕ) : Type 0 where
+pub record SparesFrames (s : Ijvm) (ws : List ℕ) : Type 0 where
   pub long : length ws ≡ size_of s
   pub bits : (i : ℕ) → get_or ws i 0 < 2 ^ 32
-  pub low : (i : ℕ) → Low s.words s.lv i → get_or ws i 0 ≡ word_at s i
+  pub low : (i : ℕ) → FramesRestOn s.words s.lv i → get_or ws i 0 ≡ word_at s i
 
 module _ (s : Ijvm) (r : Sound s) where
   -- no word is written
-  none : Spares s s.words
+  none : SparesFrames s s.words
   none = record { long = refl; bits = r.words; low = λ i h. refl }
 
   -- a word above LV that is not at the link
-  more : (ws : List ℕ) → Spares s ws → (a v : ℕ) → s.lv < a → (a < link_of s) ⊎ (base_of s < a) → v < 2 ^ 32 → Spares s (set ws a v)
-  more ws p a v above free small =
+  more : (ws : List ℕ) → SparesFrames s ws → (a v : ℕ) → s.lv < a → (a < link_of s) ⊎ (base_of s < a) → v < 2 ^ 32 → SparesFrames s (set ws a v)
+  more ws p a v above spare small =
       record {
         long = length-set ws a v ∙ p.long;
         bits = bits_set ws a v small p.bits;
@@ -80,23 +82,23 @@ module _ (s : Ijvm) (r : Sound s) where
       }
 
   -- a word of the operand stack
-  over : (a v : ℕ) → base_of s < a → v < 2 ^ 32 → Spares s (set s.words a v)
+  over : (a v : ℕ) → base_of s < a → v < 2 ^ 32 → SparesFrames s (set s.words a v)
   over a v h small = let l = own_link s r in more s.words none a v (omega arith) (inr h) small
 
   -- a variable
-  variable : (n v : ℕ) → VariableAt s n → v < 2 ^ 32 → Spares s (set s.words (s.lv + n) v)
+  variable : (n v : ℕ) → VariableAt s n → v < 2 ^ 32 → SparesFrames s (set s.words (s.lv + n) v)
   variable n v h small = more s.words none (s.lv + n) v (omega arith) (inl h.1) small
 
   -- the two topmost words
-  two : (v w : ℕ) → base_of s + 2 ≤ s.sp → v < 2 ^ 32 → w < 2 ^ 32 → Spares s (set (set s.words s.sp v) (s.sp - 1) w)
+  two : (v w : ℕ) → base_of s + 2 ≤ s.sp → v < 2 ^ 32 → w < 2 ^ 32 → SparesFrames s (set (set s.words s.sp v) (s.sp - 1) w)
   two v w deep small small' =
       let l = own_link s r in
       more (set s.words s.sp v) (over s.sp v (omega arith) small) (s.sp - 1) w (omega arith) (inr (omega arith)) small'
 
 -- What a case does by the way that it goes on: it calls, it returns, or it spares the frames and leaves SP at base or above.
 abbrev pub Does : Way → Case → Ijvm → Type 0
-Does On c s = Spares s ((row_of c).writes s) × (base_of s ≤ new_sp s (shape_of c).stack)
-Does Branch c s = Spares s ((row_of c).writes s) × (base_of s ≤ new_sp s (shape_of c).stack)
+Does On c s = SparesFrames s ((row_of c).writes s) × (base_of s ≤ new_sp s (shape_of c).stack)
+Does Branch c s = SparesFrames s ((row_of c).writes s) × (base_of s ≤ new_sp s (shape_of c).stack)
 Does Return c s = c ≡ Ireturn
 Does Call c s = c ≡ Invokevirtual
 
@@ -126,8 +128,8 @@ does Invokevirtual s r f = refl
 does WideIload s r f = (over s r (s.sp + 1) _ (omega arith) (r.words _), omega arith)
 does WideIstore s r f = (variable s r _ _ f.2.4 (r.words _), omega arith)
 
--- Where a call puts its frame, and the words that it writes.
-pub record Placed (s : Ijvm) : Type 0 where
+-- The frame of a call: where it lies, and the words that the call writes.
+pub record CallFrame (s : Ijvm) : Type 0 where
   pub above : base_of s < objref_of s
   pub below : objref_of s < new_link_of s
   pub lower : (i : ℕ) → i < objref_of s → get_or (entering s) i 0 ≡ word_at s i
@@ -135,7 +137,7 @@ pub record Placed (s : Ijvm) : Type 0 where
   pub pc_is : get_or (entering s) (new_link_of s) 0 ≡ s.pc + 3
   pub lv_is : get_or (entering s) (new_link_of s + 1) 0 ≡ s.lv
 
--- three words written one above the other, read back
+-- three words that a call writes, read back: at LV, at the link and above it
 module _ (ws : List ℕ) (lv link a b : ℕ) (below : lv < link) (room : link + 1 < length ws) where
   abbrev ws₁ : List ℕ
   ws₁ = set ws lv link
@@ -143,42 +145,42 @@ module _ (ws : List ℕ) (lv link a b : ℕ) (below : lv < link) (room : link + 
   abbrev ws₂ : List ℕ
   ws₂ = set ws₁ link a
 
-  lower_of : (i : ℕ) → i < lv → get_or (set ws₂ (link + 1) b) i 0 ≡ get_or ws i 0
-  lower_of i h =
+  below_lv : (i : ℕ) → i < lv → get_or (set ws₂ (link + 1) b) i 0 ≡ get_or ws i 0
+  below_lv i h =
       get_or-set_other ws₂ (link + 1) i b 0 (omega arith) ∙ get_or-set_other ws₁ link i a 0 (omega arith) ∙ get_or-set_other ws lv i link 0 (omega arith)
 
-  first_of : get_or (set ws₂ (link + 1) b) lv 0 ≡ link
-  first_of =
+  at_lv : get_or (set ws₂ (link + 1) b) lv 0 ≡ link
+  at_lv =
       get_or-set_other ws₂ (link + 1) lv b 0 (omega arith) ∙ get_or-set_other ws₁ link lv a 0 (omega arith) ∙ get_or-set_same ws lv link 0 (omega arith)
 
-  second_of_lem : get_or (set ws₂ (link + 1) b) link 0 ≡ a
-  second_of_lem =
+  at_link : get_or (set ws₂ (link + 1) b) link 0 ≡ a
+  at_link =
       let n : length ws₁ ≡ length ws = length-set ws lv link in
       get_or-set_other ws₂ (link + 1) link b 0 (omega arith) ∙ get_or-set_same ws₁ link a 0 (omega arith)
 
-  third_of : get_or (set ws₂ (link + 1) b) (link + 1) 0 ≡ b
-  third_of =
+  above_link : get_or (set ws₂ (link + 1) b) (link + 1) 0 ≡ b
+  above_link =
       let n : length ws₂ ≡ length ws = length-set ws₁ link a ∙ length-set ws lv link in
       get_or-set_same ws₂ (link + 1) b 0 (omega arith)
 
-pub placed : (s : Ijvm) → Applies Invokevirtual s → Placed s
-placed s f =
+pub call_frame : (s : Ijvm) → Applies Invokevirtual s → CallFrame s
+call_frame s f =
     let above : base_of s < objref_of s = omega arith in
     let below : objref_of s < new_link_of s = omega arith in
     record {
       above = above;
       below = below;
-      lower = lower_of s.words (objref_of s) (new_link_of s) (s.pc + 3) s.lv below f.2.6;
-      link_is = first_of s.words (objref_of s) (new_link_of s) (s.pc + 3) s.lv below f.2.6;
-      pc_is = second_of_lem s.words (objref_of s) (new_link_of s) (s.pc + 3) s.lv below f.2.6;
-      lv_is = third_of s.words (objref_of s) (new_link_of s) (s.pc + 3) s.lv below f.2.6;
+      lower = below_lv s.words (objref_of s) (new_link_of s) (s.pc + 3) s.lv below f.2.6;
+      link_is = at_lv s.words (objref_of s) (new_link_of s) (s.pc + 3) s.lv below f.2.6;
+      pc_is = at_link s.words (objref_of s) (new_link_of s) (s.pc + 3) s.lv below f.2.6;
+      lv_is = above_link s.words (objref_of s) (new_link_of s) (s.pc + 3) s.lv below f.2.6;
     }
 
 -- A call puts one frame more on top; the words that the others rest on lie below it.
-pub rests : (s : Ijvm) → Placed s → s.lv < link_of s → (i : ℕ) → Low s.words s.lv i → get_or (entering s) i 0 ≡ word_at s i
+pub rests : (s : Ijvm) → CallFrame s → s.lv < link_of s → (i : ℕ) → FramesRestOn s.words s.lv i → get_or (entering s) i 0 ≡ word_at s i
 rests s p l i h = p.lower i (omega (arith, p.above))
 
-pub called_frames : (s : Ijvm) → Placed s → (n k : ℕ) → Frames n s.words k s.lv → Frames (suc n) (entering s) k (objref_of s)
+pub called_frames : (s : Ijvm) → CallFrame s → (n k : ℕ) → Frames n s.words k s.lv → Frames (suc n) (entering s) k (objref_of s)
 called_frames s p n k f =
     let l = linked n k s.lv s.words f in
     rw (p.link_is, p.lv_is)
@@ -201,7 +203,7 @@ module _ (s : Ijvm) (r : Sound s) (pc sp : ℕ) (code : pc < 4 * s.mark) (room :
   abbrev moved : ℕ → List ℕ → Ijvm
   moved lv ws = record { pc = pc; sp = sp; lv = lv; words = ws; cpp = s.cpp; pool = s.pool; mark = s.mark }
 
-  spared : (lv : ℕ) (ws : List ℕ) → lv ≡ s.lv → base_of s ≤ sp → Spares s ws → Sound (moved lv ws)
+  spared : (lv : ℕ) (ws : List ℕ) → lv ≡ s.lv → base_of s ≤ sp → SparesFrames s ws → Sound (moved lv ws)
   spared lv ws e above p =
       let n = p.long in
       let same : get_or ws s.lv 0 ≡ link_of s = p.low s.lv (inl (omega arith)) in
@@ -238,7 +240,7 @@ returned s r f (suc n) (l, o, g) =
 
 called : (s : Ijvm) → Sound s → Applies Invokevirtual s → Sound (effect_of Invokevirtual s)
 called s r f =
-    let p = placed s f in
+    let p = call_frame s f in
     let m = over_mark s r in
     let l = own_link s r in
     let ws₁ : List ℕ = set s.words (objref_of s) (new_link_of s) in

@@ -1,19 +1,20 @@
 -- The summing method, step by step.
-use Rattle.std.proofs.Common.{◌≡◌, ℕ, zero, suc, ◌+◌, ◌-◌, ◌*◌, ◌/◌, ◌%◌, ◌^◌, ◌<◌, ◌≤◌, ◌≢◌, ◌⊎◌, List, [], ◌∷◌, ◌++◌, get_or, set, replicate, Some, None, Err, sym, refl, ap, ◌∙◌, subst, zero-add, add-one, arith}
+use Rattle.std.proofs.Common.{◌≡◌, ℕ, zero, suc, ◌+◌, ◌-◌, ◌*◌, ◌/◌, ◌%◌, ◌^◌, ◌<◌, ◌≤◌, ◌≢◌, ◌⊎◌, List, [], ◌∷◌, ◌++◌, get_or, set, replicate, Some, None, Err, sym, refl, ap, ◌∙◌, subst, ⊎_elim, zero-add, add-one, arith}
 use borrow.Author.Tests.{lt-leb}
+use Rattle.std.proofs.lemmas.Bool.{cases_lt}
 use Rattle.control.specs.Bus.{signed}
 use Rattle.instructions.specs.declared.cases.Case.{Case}
 use Rattle.instructions.specs.declared.cases.Case.TheVariants.{Bipush, Iload, Istore, Iadd, Iinc, IfeqFalls, IfeqTaken, Goto}
 use Rattle.instructions.specs.declared.refusal.StepRefusal.TheVariants.{End}
-use Rattle.instructions.specs.Machine.{Ijvm, byte_of}
+use Rattle.instructions.specs.Ijvm.{Ijvm, byte_of}
 use Rattle.instructions.specs.Table.{effect_of}
 use Rattle.instructions.specs.Step.{step_of}
-use Rattle.instructions.specs.Stands.{Takes}
+use Rattle.instructions.specs.StandsFor.{Takes}
 use Rattle.instructions.specs.Sound.{Sound}
 use Rattle.instructions.specs.Performed.{Performs, total}
 use Rattle.instructions.specs.Summing.{program, summing, head, turn, one_lower, last_turn, loop, up_to, method, start, finish, TakesOnTheMic1, ATurnTakes, TheLoopTakes, TheMethodTakes, MethodAnswer}
 use Rattle.instructions.proofs.Pairs.{◌⨾◌}
-use Rattle.instructions.proofs.Applied.{step_of_lem}
+use Rattle.instructions.proofs.Applied.{step_performs}
 use Rattle.instructions.proofs.Lists.{performs_both}
 use Rattle.instructions.proofs.EveryCase.{performed_takes}
 
@@ -30,30 +31,30 @@ module _ (n : ℕ) (rest : List ℕ) where
   begins count sum first second =
       let sum' = (sum + count) % 2 ^ 32 in
       let count' = one_lower count in
-      step_of_lem Iload (at 12 13 count sum first second) (omega arith)
-      ⨾ step_of_lem Iload (at 14 14 count sum sum second) (omega arith)
-      ⨾ step_of_lem Iadd (at 16 15 count sum sum count) (omega arith)
-      ⨾ step_of_lem Istore (at 17 14 count sum sum' count) (omega arith)
-      ⨾ step_of_lem Iinc (at 19 13 count sum' sum' count) (omega arith)
-      ⨾ step_of_lem Iload (at 22 13 count' sum' sum' count) (omega arith)
+      step_performs Iload (at 12 13 count sum first second) (omega arith)
+      ⨾ step_performs Iload (at 14 14 count sum sum second) (omega arith)
+      ⨾ step_performs Iadd (at 16 15 count sum sum count) (omega arith)
+      ⨾ step_performs Istore (at 17 14 count sum sum' count) (omega arith)
+      ⨾ step_performs Iinc (at 19 13 count sum' sum' count) (omega arith)
+      ⨾ step_performs Iload (at 22 13 count' sum' sum' count) (omega arith)
       ⨾ refl
 
-  goes_on : (count sum second : ℕ) → count ≢ 0 → Performs (IfeqFalls ∷ (Goto ∷ [])) (at 24 14 count sum count second) (at 12 13 count sum count second)
+  goes_round : (count sum second : ℕ) → count ≢ 0 → Performs (IfeqFalls ∷ (Goto ∷ [])) (at 24 14 count sum count second) (at 12 13 count sum count second)
   unfolding byte_of
-  goes_on count sum second ne =
-      step_of_lem IfeqFalls (at 24 14 count sum count second) (omega arith)
-      ⨾ step_of_lem Goto (at 27 13 count sum count second) (omega arith)
+  goes_round count sum second ne =
+      step_performs IfeqFalls (at 24 14 count sum count second) (omega arith)
+      ⨾ step_performs Goto (at 27 13 count sum count second) (omega arith)
       ⨾ refl
 
   leaves : (sum second : ℕ) → Performs (IfeqTaken ∷ []) (at 24 14 0 sum 0 second) (at 30 13 0 sum 0 second)
   unfolding byte_of
   leaves sum second =
-      step_of_lem IfeqTaken (at 24 14 0 sum 0 second) (omega arith) ⨾ refl
+      step_performs IfeqTaken (at 24 14 0 sum 0 second) (omega arith) ⨾ refl
 
   a_turn : (count sum first second : ℕ) → count < 2 ^ 32 → count ≢ 1
       → Performs turn (at 12 13 count sum first second) (at 12 13 (one_lower count) ((sum + count) % 2 ^ 32) (one_lower count) count)
   a_turn count sum first second small ne =
-      performs_both six (IfeqFalls ∷ (Goto ∷ [])) _ _ _ (begins count sum first second) (goes_on (one_lower count) ((sum + count) % 2 ^ 32) count (omega arith))
+      performs_both six (IfeqFalls ∷ (Goto ∷ [])) _ _ _ (begins count sum first second) (goes_round (one_lower count) ((sum + count) % 2 ^ 32) count (omega arith))
 
   the_last : (sum first second : ℕ) → Performs last_turn (at 12 13 1 sum first second) (at 30 13 0 ((sum + 1) % 2 ^ 32) 0 1)
   the_last sum first second = performs_both six (IfeqTaken ∷ []) _ _ _ (begins 1 sum first second) (leaves ((sum + 1) % 2 ^ 32) 1)
@@ -69,7 +70,27 @@ module _ (n : ℕ) (rest : List ℕ) where
       (rw (← lower) (a_turn count sum first second (omega arith) (omega arith)))
       (rw (← sums) (the_loop k ((sum + count) % 2 ^ 32) (k + 1) count (omega arith)))
 
-  -- BIPUSH n and ISTORE 1 stand in the word that has n in it.
+  from_zero : (k sum first second : ℕ) → k + 1 ≡ 2 ^ 32 → Performs (loop k) (at 12 13 0 sum first second) (at 30 13 0 ((sum + up_to (k + 1)) % 2 ^ 32) 0 1)
+  from_zero zero sum first second e = absurd (omega arith)
+  from_zero (suc k) sum first second e =
+      let lower : one_lower 0 ≡ k + 1 = omega arith in
+      let added : up_to (suc k + 1) ≡ suc k + 1 + up_to (k + 1) = rw (add-one (suc k), add-one k) in
+      let sums : ((sum + 0) % 2 ^ 32 + up_to (k + 1)) % 2 ^ 32 ≡ (sum + up_to (suc k + 1)) % 2 ^ 32 = omega arith in
+      performs_both turn (loop k) (at 12 13 0 sum first second) (at 12 13 (k + 1) ((sum + 0) % 2 ^ 32) (k + 1) 0) (at 30 13 0 ((sum + up_to (suc k + 1)) % 2 ^ 32) 0 1)
+      (rw (← lower) (a_turn 0 sum first second (omega arith) (omega arith)))
+      (rw (← sums) (the_loop k ((sum + 0) % 2 ^ 32) (k + 1) 0 (omega arith)))
+
+  -- The loop from any count: 0, which is 2^32, goes round to 2^32 − 1.
+  from_any_count : (k sum first second : ℕ) → k < 2 ^ 32 → Performs (loop k) (at 12 13 ((k + 1) % 2 ^ 32) sum first second) (at 30 13 0 ((sum + up_to (k + 1)) % 2 ^ 32) 0 1)
+  from_any_count k sum first second small = ⊎_elim below above (cases_lt (k + 1) (2 ^ 32))
+    where
+      below : k + 1 < 2 ^ 32 → Performs (loop k) (at 12 13 ((k + 1) % 2 ^ 32) sum first second) (at 30 13 0 ((sum + up_to (k + 1)) % 2 ^ 32) 0 1)
+      below h = let same : (k + 1) % 2 ^ 32 ≡ k + 1 = omega arith in rw same (the_loop k sum first second h)
+
+      above : 2 ^ 32 ≤ k + 1 → Performs (loop k) (at 12 13 ((k + 1) % 2 ^ 32) sum first second) (at 30 13 0 ((sum + up_to (k + 1)) % 2 ^ 32) 0 1)
+      above h = let none : (k + 1) % 2 ^ 32 ≡ 0 = omega arith in rw none (from_zero k sum first second (omega arith))
+
+  -- BIPUSH n and ISTORE 1 are in the word that has n in it.
   pushed : n ≤ 127 → effect_of Bipush (at 4 13 0 0 0 0) ≡ at 6 14 0 0 n 0
   unfolding byte_of
   pushed small =
@@ -90,20 +111,20 @@ module _ (n : ℕ) (rest : List ℕ) where
       let middle : (0x10003601 + n * 2 ^ 16) / 2 ^ 8 ≡ 0x100036 + n * 2 ^ 8 = omega arith in
       let b₇ : byte_of (program n) 7 ≡ 1 = omega arith in
       let last : Performs (Bipush ∷ (Istore ∷ [])) (at 8 13 n 0 n 0) (at 12 13 n 0 0 0) =
-      step_of_lem Bipush (at 8 13 n 0 n 0) (omega arith)
-      ⨾ step_of_lem Istore (at 10 14 n 0 0 0) (omega arith)
+      step_performs Bipush (at 8 13 n 0 n 0) (omega arith)
+      ⨾ step_performs Istore (at 10 14 n 0 0 0) (omega arith)
       ⨾ refl
       in
       let from-6 : Performs (Istore ∷ (Bipush ∷ (Istore ∷ []))) (at 6 14 0 0 n 0) (at 12 13 n 0 0 0) =
-      step_of_lem Istore (at 6 14 0 0 n 0) (omega (arith, middle))
+      step_performs Istore (at 6 14 0 0 n 0) (omega (arith, middle))
       ⨾ subst (λ s. Performs (Bipush ∷ (Istore ∷ [])) s (at 12 13 n 0 0 0)) (sym (stored small)) last
       in
-      step_of_lem Bipush (at 4 13 0 0 0 0) (omega (arith, high))
+      step_performs Bipush (at 4 13 0 0 0 0) (omega (arith, high))
       ⨾ subst (λ s. Performs (Istore ∷ (Bipush ∷ (Istore ∷ []))) s (at 12 13 n 0 0 0)) (sym (pushed small)) from-6
 
   epilogue : (sum : ℕ) → Performs (Iload ∷ []) (at 30 13 0 sum 0 1) (at 32 14 0 sum sum 1)
   unfolding byte_of
-  epilogue sum = step_of_lem Iload (at 30 13 0 sum 0 1) (omega arith) ⨾ refl
+  epilogue sum = step_performs Iload (at 30 13 0 sum 0 1) (omega arith) ⨾ refl
 
   ended : (sum : ℕ) → step_of (at 32 14 0 sum sum 1) ≡ Err End
   unfolding step_of byte_of
@@ -124,7 +145,7 @@ loop_total (suc k) = let i = loop_total k in let b = total_both turn (loop k) in
 
 -- The Mic-1 takes the sum of the entries.
 on_mic_1 : (cases : List Case) (s t : Ijvm) → Performs cases s t → (cycles : ℕ) → total cases ≡ cycles → TakesOnTheMic1 cycles s t
-on_mic_1 cases s t p cycles e m sound stands small = subst (λ k. Takes k m t) e (performed_takes cases s t m sound stands small p)
+on_mic_1 cases s t p cycles e m sound stands_for small = subst (λ k. Takes k m t) e (performed_takes cases s t m sound stands_for small p)
 
 pub a_turn_takes : ATurnTakes 51
 a_turn_takes = record {
@@ -132,6 +153,7 @@ a_turn_takes = record {
   in_all = refl;
   performs = λ n count sum first second rest. a_turn n rest count sum first second;
   on_the_mic_1 = λ n count sum first second rest small ne. on_mic_1 turn _ _ (a_turn n rest count sum first second small ne) 51 refl;
+  last = λ n sum first second rest. the_last n rest sum first second;
 }
 
 pub every_loop_takes : (k cycles : ℕ) → cycles ≡ 51 * k + 47 → TheLoopTakes k cycles
@@ -140,16 +162,16 @@ every_loop_takes k cycles e =
     let all : total (loop k) ≡ cycles = loop_total k ∙ sym e in
     record {
       in_all = all;
-      performs = λ n sum first second rest. the_loop n rest k sum first second;
-      on_the_mic_1 = λ n sum first second rest small. on_mic_1 (loop k) _ _ (the_loop n rest k sum first second small) cycles all;
+      performs = λ n sum first second rest. from_any_count n rest k sum first second;
+      on_the_mic_1 = λ n sum first second rest small. on_mic_1 (loop k) _ _ (from_any_count n rest k sum first second small) cycles all;
     }
 
 module _ (k : ℕ) (small : k + 1 ≤ 127) where
   one_off : k + 1 - 1 ≡ k
   one_off = omega arith
 
-  whole : (rest : List ℕ) → Performs (method (k + 1)) (start (k + 1) rest) (finish (k + 1) rest)
-  whole rest =
+  the_method : (rest : List ℕ) → Performs (method (k + 1)) (start (k + 1) rest) (finish (k + 1) rest)
+  the_method rest =
       let n : ℕ = k + 1 in
       let bound = up_to_small n small in
       let sums : (0 + up_to n) % 2 ^ 32 ≡ up_to n = omega arith in
@@ -191,9 +213,9 @@ starts_sound n h = record {
 method_takes : (k : ℕ) → k + 1 ≤ 127 → TheMethodTakes (k + 1) (51 * (k + 1) + 24)
 method_takes k small = record {
   in_all = in_all k small;
-  performs = whole k small;
+  performs = the_method k small;
   ends = λ rest. ended (k + 1) rest (up_to (k + 1));
-  on_the_mic_1 = λ rest. on_mic_1 (method (k + 1)) _ _ (whole k small rest) (51 * (k + 1) + 24) (in_all k small);
+  on_the_mic_1 = λ rest. on_mic_1 (method (k + 1)) _ _ (the_method k small rest) (51 * (k + 1) + 24) (in_all k small);
   starts_sound = starts_sound (k + 1) small;
 }
 

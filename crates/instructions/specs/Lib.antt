@@ -1,12 +1,12 @@
-pub mod Machine
+pub mod Ijvm
 pub mod Table
 pub mod Opcodes
-pub mod Refusals
 pub mod Checks
 pub mod Step
 pub mod Applies
-pub mod Stands
+pub mod StandsFor
 pub mod Sound
 pub mod Performed
 pub mod Nest
 pub mod Summing
+pub mod Refusals

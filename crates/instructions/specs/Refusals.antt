@@ -1,9 +1,9 @@
--- The refusals of a step, by their numbers in the manual.
+-- The refusals of a step: their numbers in the manual, and their texts.
 use Rattle.std.specs.Prelude.{ℕ, List, ◌++◌, codes, decimal}
 use Rattle.instructions.specs.declared.refusal.StepRefusal.{StepRefusal}
 use Rattle.instructions.specs.declared.refusal.StepRefusal.TheVariants.{OutsideCode, UnknownOpcode, TooShallow, NoVariable, NotInPool, WrongMethod, NoRoom, NextOutside, End, NotLoaded}
 
--- 30 to 39.
+-- The number of each refusal.
 abbrev pub step_number : StepRefusal → ℕ
 step_number OutsideCode = 30
 step_number UnknownOpcode = 31
@@ -16,7 +16,7 @@ step_number NextOutside = 37
 step_number End = 38
 step_number NotLoaded = 39
 
--- The same as text.
+-- The reason of each refusal, in words.
 abbrev pub step_reason : StepRefusal → List ℕ
 step_reason OutsideCode = codes "a byte of the instruction lies outside code"
 step_reason UnknownOpcode = codes "no instruction has this opcode"
@@ -29,6 +29,6 @@ step_reason NextOutside = codes "the next PC lies outside code"
 step_reason End = codes "main returns"
 step_reason NotLoaded = codes "no program is loaded"
 
--- With the number before it.
+-- The text of a refusal: `refused`, its number, and its reason.
 abbrev pub step_text : StepRefusal → List ℕ
 step_text refusal = codes "refused " ++ (decimal (step_number refusal) ++ (codes ": " ++ step_reason refusal))

@@ -1,8 +1,8 @@
 -- What holds of every state that a started program reaches.
 use Rattle.std.specs.Prelude.{◌≡◌, ℕ, zero, suc, ◌+◌, ◌*◌, ◌^◌, ◌<◌, ◌≤◌, List, slice_index}
-use Rattle.instructions.specs.Machine.{Ijvm, size_of, word_at, base_of}
+use Rattle.instructions.specs.Ijvm.{Ijvm, size_of, word_at, base_of}
 
--- Frames lie one above the other down to main's, which lies at the mark: so many calls have not returned. The link of each points above its own LV, and the caller's whole frame, with its two words at the link, lies below it.
+-- The frames lie one above the other, from the one at LV down to main's at the mark, with so many calls that have not returned. The link of each points above its own LV, and the caller's frame, with the two words at its link, lies below it.
 abbrev pub Frames : (calls : ℕ) → List ℕ → (mark lv : ℕ) → Type 0
 Frames zero words mark lv = (lv ≡ mark) × (lv < slice_index words lv)
 Frames (suc n) words mark lv =
@@ -10,7 +10,7 @@ Frames (suc n) words mark lv =
     × (slice_index words (slice_index words (slice_index words lv + 1)) + 2 ≤ lv)
     × Frames n words mark (slice_index words (slice_index words lv + 1))
 
--- A sound state: the size is within the limit of every memory, SP lies below it and not below base, each word has 32 bits, the frames lie as said, the pool below the mark, and PC in code.
+-- A sound state: the size is at most 1,048,576 words, SP lies below it and not below base, each word has 32 bits, the frames lie one above the other down to main's, the constant pool lies below the mark, and PC in code.
 pub record Sound (s : Ijvm) : Type 0 where
   pub small : size_of s ≤ 1048576
   pub room : s.sp < size_of s

@@ -2,18 +2,18 @@
 #![tactic(auto)]
 
 mod cases;
+mod one_check;
 mod opcodes;
 mod refusal;
-mod refusing;
 mod shapes;
 mod summing_method;
 mod theorems;
 mod timing;
 
 pub use cases::Case;
+pub use one_check::check;
 pub use opcodes::Opcode;
 pub use refusal::StepRefusal;
-pub use refusing::check;
 pub use shapes::{Shape, Stack, Variable, Way, a_case_is_performed_where_it_applies};
 pub use summing_method::{a_turn_takes_51_cycles, the_loop_takes, the_summing_method_takes};
 pub use theorems::{

@@ -1,21 +1,26 @@
-// The opcodes.
+// The opcodes of IJVM.
 ghost use Rattle.std.specs.Prelude.{◌≡◌};
 ghost use Rattle.instructions.specs.Opcodes.{opcode_of};
 
 use crate::Case;
 
-// What an opcode is: one case of the table, or several, of which the state decides.
+/// What an opcode is: one case of the cycle table, or several, between which the state decides (docs/instruction-machine.md).
 #[derive(Clone, Copy, Debug, PartialEq, Eq)]
 pub enum Opcode {
+    /// An opcode of one case.
     One(Case),
+    /// 0x99, IFEQ: taken where the top is 0.
     Ifeq,
+    /// 0x9B, IFLT: taken where the top is negative.
     Iflt,
+    /// 0x9F, IF_ICMPEQ: taken where the two topmost words are equal.
     IfIcmpeq,
+    /// 0xC4, WIDE: the byte behind it says which instruction it is.
     Wide,
 }
 
 impl Opcode {
-    // The instruction that a byte is the opcode of, if there is one; a step says what it means that there is none, so this is no TryFrom.
+    /// The opcode that a byte is; none where no instruction has it, which a step refuses with 31 (docs/instruction-machine.md).
     #[inline(always)]
     pub fn of(byte: u8) -> Option<Opcode>
         ensures { result ≡ opcode_of byte }

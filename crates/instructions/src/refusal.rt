@@ -5,32 +5,33 @@ ghost use Rattle.instructions.specs.Refusals.{step_number, step_reason, step_tex
 use std::error::Error;
 use std::fmt;
 
+/// Why a step is refused, with 30 to 39. Nothing changes then (docs/refusals.md).
 #[derive(Clone, Copy, Debug, PartialEq, Eq)]
 pub enum StepRefusal {
-    // a byte of the instruction lies outside code
+    /// 30: a byte of the instruction lies outside code.
     OutsideCode = 30,
-    // no instruction has this opcode
+    /// 31: no instruction has this opcode.
     UnknownOpcode = 31,
-    // the operand stack is not deep enough
+    /// 32: the operand stack is not deep enough.
     TooShallow = 32,
-    // the frame has no such variable
+    /// 33: the frame has no such variable.
     NoVariable = 33,
-    // the index or disp is not below the pool count
+    /// 34: the index or disp is not below the pool count.
     NotInPool = 34,
-    // the method's code lies outside code, or it has no params
+    /// 35: the method's code lies outside code, or it has no params.
     WrongMethod = 35,
-    // the new SP is not below size
+    /// 36: the new SP, a word address, is not below the size.
     NoRoom = 36,
-    // the next PC lies outside code
+    /// 37: the next PC lies outside code.
     NextOutside = 37,
-    // main returns: the regular end
+    /// 38: main returns, which is the regular end.
     End = 38,
-    // no program is loaded
+    /// 39: no program is loaded.
     NotLoaded = 39,
 }
 
 impl StepRefusal {
-    // The number of the refusal: its discriminant. A cast asks for the enum's own type, so each enum has this function.
+    /// The number of the refusal: its discriminant (docs/refusals.md).
     pub fn number(self) -> u32
         ensures { result ≡ step_number self }
     {
@@ -56,7 +57,7 @@ impl StepRefusal {
     }
 }
 
-// As that of every refusal: a Display for all types of a trait is not to be had.
+// Displayed is `refused`, the number and the reason.
 impl fmt::Display for StepRefusal {
     ghost output = { λ refusal. Some (step_text refusal) };
 

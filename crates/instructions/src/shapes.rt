@@ -1,53 +1,67 @@
-// What a step asks of each case before it is performed.
+// The columns of the table that a step's checks go by.
 ghost use Rattle.std.specs.Prelude.{◌≡◌};
 ghost use Rattle.instructions.specs.Table.{shape_of};
 ghost use Rattle.instructions.specs.Applies.{PerformedWhereItApplies};
 
 use crate::Case;
 
-// How an instruction names its variable: by the byte behind the opcode, or by the two bytes behind WIDE's second opcode.
+/// How an instruction names its variable (docs/instruction-machine.md).
 #[derive(Clone, Copy, Debug, PartialEq, Eq)]
 pub enum Variable {
+    /// By the byte behind the opcode, unsigned.
     ByByte,
+    /// By the two bytes behind WIDE's second opcode, unsigned.
     ByShort,
 }
 
-// The new SP: as it was, one word pushed, one or two popped, at the end of a called method's frame, or at the frame that is left.
+/// The new SP, a word address (docs/instruction-machine.md).
 #[derive(Clone, Copy, Debug, PartialEq, Eq)]
 pub enum Stack {
+    /// SP stays.
     Same,
+    /// One word is pushed.
     Push,
+    /// One word is popped.
     Pop,
+    /// Two words are popped.
     PopTwo,
+    /// A call: SP is one above the new link, where the caller's LV is kept.
     Enter,
+    /// A return: SP is the LV of the frame that is left.
     Leave,
 }
 
-// Where the next instruction lies: behind this one, at a branch's target, where a method returns to, or where a called method begins.
+/// Where the next instruction lies, and so the way that a case goes on (docs/instruction-machine.md).
 #[derive(Clone, Copy, Debug, PartialEq, Eq)]
 pub enum Way {
+    /// Behind this one.
     On,
+    /// At the branch's target.
     Branch,
+    /// Behind the call that is returned from.
     Return,
+    /// At the first byte of the called method's code.
     Call,
 }
 
-// A row of the table, as far as the checks of a step go by it.
+/// The columns of a case's row that the checks of a step go by (docs/instruction-machine.md).
 #[derive(Clone, Copy, Debug, PartialEq, Eq)]
 pub struct Shape {
-    // bytes of the instruction
+    /// How many bytes the instruction has.
     pub bytes: u8,
-    // whether an index of the constant pool stands behind the opcode
+    /// Whether an index or disp of the constant pool is behind the opcode.
     pub pool: bool,
-    // words that it needs on the operand stack; a call needs its params besides
+    /// How many words it needs on the operand stack; a call needs its method's params.
     pub depth: u8,
-    // the variable that it names, if it names one
+    /// The variable that it names, if it names one.
     pub variable: Option<Variable>,
+    /// The new SP.
     pub stack: Stack,
+    /// The next PC.
     pub way: Way,
 }
 
-// A row by its columns: as literals the 24 rows would take eight lines each.
+// A row by its columns.
 fn row(
     bytes: u8,
     pool: bool,
@@ -69,7 +83,7 @@ fn row(
 }
 
 impl Shape {
-    // The row of a case. No From, though it cannot fail: it would be the same match, and no plainer.
+    /// The columns of a case's row (docs/instruction-machine.md).
     pub fn of(case: Case) -> Shape
         ensures { result ≡ shape_of case }
     {
@@ -102,7 +116,7 @@ impl Shape {
     }
 }
 
-// A step performs a case exactly where it applies, by what its row asks for; so where nothing is refused exactly one case applies.
+/// A theorem: a step performs this case exactly where it applies. So where a step is not refused exactly one case applies, and where none applies it is refused. Answered are the columns of its row (docs/instruction-machine.md).
 #[tactic(auto, using(crate::proofs::Applied::applied))]
 pub fn a_case_is_performed_where_it_applies(case: Case) -> Shape
     ensures row { result ≡ shape_of case }

@@ -8,8 +8,8 @@ mod tests {
     use std::process::Abort;
     use std::test::Fail;
 
-    // the number of a refused fill, and the address where there is one: here as elsewhere the numbers are the manual's, and so they are compared
-    fn place(refusal: FillRefusal) -> (u32, Option<u16>) {
+    // the number of a refused fill, and the address that it carries, if it carries one
+    fn number_and_address(refusal: FillRefusal) -> (u32, Option<u16>) {
         let address = match refusal {
             FillRefusal::WrongCount => None,
             FillRefusal::WrongWord { address, cause: _ } => Some(address),
@@ -66,7 +66,7 @@ mod tests {
     }
 
     #[test]
-    fn encode_puts_each_field_in_its_place(rt: HostRuntime) -> Result<(), Fail> {
+    fn encode_puts_each_field_in_its_bits(rt: HostRuntime) -> Result<(), Fail> {
         let zero = decode(0)?;
         assert_eq!(rt; encode(&zero), Ok(0));
         assert_eq!(rt;
@@ -160,24 +160,33 @@ mod tests {
     }
 
     #[test]
-    fn a_store_is_filled_whole_or_not_at_all(rt: HostRuntime) {
+    fn a_store_is_filled_with_all_numbers_or_none(rt: HostRuntime) {
         let mut store = ControlStore::new();
         let mut numbers = [0x148007u64; 512];
         assert_eq!(rt; store.number(0), Some(0));
         assert_eq!(rt; store.number(511), Some(0));
         assert_eq!(rt; store.number(512), None);
         assert_eq!(rt;
-            store.fill(&numbers[0..511]).map_err(place),
+            store.fill(&numbers[0..511]).map_err(number_and_address),
             Err((10, None))
         );
-        assert_eq!(rt; store.fill(&[]).map_err(place), Err((10, None)));
+        assert_eq!(rt;
+            store.fill(&[]).map_err(number_and_address),
+            Err((10, None))
+        );
         assert_eq!(rt; store.number(0), Some(0));
         numbers[7] = 0x60;
         numbers[5] = 0xC0_0000;
-        assert_eq!(rt; store.fill(&numbers).map_err(place), Err((8, Some(5))));
+        assert_eq!(rt;
+            store.fill(&numbers).map_err(number_and_address),
+            Err((8, Some(5)))
+        );
         assert_eq!(rt; store.number(0), Some(0));
         numbers[5] = 0x4350211;
-        assert_eq!(rt; store.fill(&numbers).map_err(place), Err((9, Some(7))));
+        assert_eq!(rt;
+            store.fill(&numbers).map_err(number_and_address),
+            Err((9, Some(7)))
+        );
         numbers[7] = 0x3C0408;
         assert_eq!(rt; store.fill(&numbers), Ok(()));
         assert_eq!(rt;

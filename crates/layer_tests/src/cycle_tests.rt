@@ -3,7 +3,7 @@
 mod tests {
     use control::{ControlStore, Registers};
     use datapath::{Datapath, Fault, Port, PowerRefusal, power_refusal};
-    use memory::{AccessRefusal, Memory, WordMemory};
+    use memory::{AccessRefusal, ByteMemory, Memory, WordMemory};
     use std::test::Fail;
 
     // a store of zeros with two words at 0 and 1
@@ -17,7 +17,7 @@ mod tests {
     }
 
     // the cause's number, as the manual has it, the word address, the port and the MPC of a fault
-    fn shown(fault: Fault) -> (u32, u32, Port, u16) {
+    fn parts_of(fault: Fault) -> (u32, u32, Port, u16) {
         (fault.cause.number(), fault.address, fault.port, fault.mpc)
     }
 
@@ -47,17 +47,17 @@ mod tests {
         );
         let (done, fault) = machine.go(&store, 10);
         assert_eq!(rt; done, 1);
-        assert_eq!(rt; fault.map(shown), Some((4, 16, Port::Fetch, 0)));
+        assert_eq!(rt; fault.map(parts_of), Some((4, 16, Port::Fetch, 0)));
         assert_eq!(rt; (machine.state().counter, machine.state().mpc), (1, 1));
         // a refused cycle changes nothing: it is refused again
         let (done, fault) = machine.go(&store, 10);
         assert_eq!(rt; done, 0);
-        assert_eq!(rt; fault.map(shown), Some((4, 16, Port::Fetch, 0)));
+        assert_eq!(rt; fault.map(parts_of), Some((4, 16, Port::Fetch, 0)));
         Ok(())
     }
 
     #[test]
-    fn a_word_loads_three_registers_and_a_start_leaves_none_of_it(
+    fn a_word_writes_three_registers_and_a_start_leaves_none_of_it(
         rt: HostRuntime,
     ) -> Result<(), Fail> {
         let mut words = [0u32; 16];
@@ -70,14 +70,14 @@ mod tests {
         };
         let mut machine = Datapath::power(WordMemory::make(&mut words), registers, 0, 0);
         let (done, fault) = machine.go(&store, 1);
-        assert_eq!(rt; (done, fault.map(shown)), (1, None));
-        let loaded = Registers {
+        assert_eq!(rt; (done, fault.map(parts_of)), (1, None));
+        let written = Registers {
             opc: 5,
             tos: 5,
             mar: 5,
             ..registers
         };
-        assert_eq!(rt; machine.state().registers, loaded);
+        assert_eq!(rt; machine.state().registers, written);
         machine.start(&registers, 9, 2);
         let state = machine.state();
         assert_eq!(rt; state.registers, registers);
@@ -102,7 +102,7 @@ mod tests {
         );
         let (done, fault) = machine.go(&reads, 5);
         assert_eq!(rt; done, 1);
-        assert_eq!(rt; fault.map(shown), Some((4, 16, Port::Read, 0)));
+        assert_eq!(rt; fault.map(parts_of), Some((4, 16, Port::Read, 0)));
         let mut memory = machine.into_memory();
         assert_eq!(rt; memory.protect(9), Ok(()));
         let mut machine = Datapath::power(
@@ -117,7 +117,25 @@ mod tests {
         );
         let (done, fault) = machine.go(&writes, 5);
         assert_eq!(rt; done, 1);
-        assert_eq!(rt; fault.map(shown), Some((5, 8, Port::Write, 0)));
+        assert_eq!(rt; fault.map(parts_of), Some((5, 8, Port::Write, 0)));
+        Ok(())
+    }
+
+    #[test]
+    fn a_refused_cycle_leaves_each_byte(rt: HostRuntime) -> Result<(), Fail> {
+        // 66 bytes end within a word, so the memory over them has size 0
+        let mut bytes = [7u8; 66];
+        // 0: MAR = MDR = H; wr; goto 0x001
+        let store = store_of(0x818_01C0, 0x800_0000)?;
+        let mut machine = Datapath::power(ByteMemory::make(&mut bytes), Registers::default(), 0, 0);
+        assert_eq!(rt; machine.cycle(&store), Ok(()));
+        let before = machine.state();
+        let refused = machine.cycle(&store);
+        assert_eq!(rt; refused.err().map(parts_of), Some((4, 0, Port::Write, 0)));
+        assert_eq!(rt; machine.state(), before);
+        let back = machine.into_memory().into_cells();
+        assert!(rt; back.len() == 66);
+        assert_eq!(rt; (back[0], back[3], back[64], back[65]), (7, 7, 7, 7));
         Ok(())
     }
 

@@ -34,7 +34,7 @@ bytes_put cells ds a w h small e =
     ∙ words_of-put 4 256 cells ds a (omega arith) (ap length e) (omega arith)
     ∙ ap (set (words_of 4 256 cells) a) (ap (number_from_digits 256) e ∙ four_bytes w small)
 
--- and leave the others
+-- the four bytes of a word, written at 4 * a, leave the other bytes
 pub other_bytes : (cells ds : List ℕ) (a k : ℕ) → 4 * a + 4 ≤ length cells → length ds ≡ 4 → k / 4 ≢ a → get_or (put_mid (4 * a) (4 * a + 4 - 4 * a) cells ds) k 0 ≡ get_or cells k 0
 other_bytes cells ds a k h long ne =
     ⊎_elim

@@ -16,9 +16,11 @@ use borrow.Rule.Slice.PartMut.{put_mid}
 use Rattle.memory.specs.Cells.{word_at, words_of, make_of, usable}
 use Rattle.memory.specs.declared.access_refusal.AccessRefusal.TheVariants.{OutOfRange}
 
+-- there are as many words as the cells have room for
 pub length-words_of : (n b : ℕ) (cells : List ℕ) → length (words_of n b cells) ≡ length cells / n
 length-words_of n b cells = length-map-range_with_len (word_at n b cells) 0 (length cells / n)
 
+-- the word at an address that is there
 pub get_or-words_of : (n b : ℕ) (cells : List ℕ) (a d : ℕ) → a < length cells / n → get_or (words_of n b cells) a d ≡ word_at n b cells a
 get_or-words_of n b cells a d h = get_or-map-range_with_len (word_at n b cells) 0 (length cells / n) a a d h (omega arith)
 
@@ -34,19 +36,20 @@ one_cell b cells =
     (fill_by_all (word_at 1 b cells) cells (length cells / 1) 0 (omega arith)
     (λ k h. ap (λ i. get_or cells i 0) {x = k} {y = 1 * k + 0} (omega arith) ∙ omega arith))
 
--- where it is one, writing it leaves the others
+-- where a word is one cell, writing it leaves the other cells
 pub other_cells : (cells : List ℕ) (a w k : ℕ) → k / 1 ≢ a → get_or (set cells a w) k 0 ≡ get_or cells k 0
 other_cells cells a w k ne = get_or-set_other cells a k w 0 (λ e. ne (omega arith))
 
--- a word that is there, and none past the end
+-- a word that the cells make is found
 pub found : (n b : ℕ) (cells : List ℕ) (a w : ℕ) → a < length cells / n → w ≡ word_at n b cells a → Some w ≡ slice_get (words_of n b cells) a
 found n b cells a w h e =
     sym (slice_get-get_or (words_of n b cells) a 0 (rw (length-words_of n b cells) h) ∙ ap Some (get_or-words_of n b cells a 0 h ∙ sym e))
 
+-- past the last word none is found
 pub past : (n b : ℕ) (cells : List ℕ) (a : ℕ) → length cells / n ≤ a → None ≡ slice_get (words_of n b cells) a
 past n b cells a h = sym (slice_get_past (words_of n b cells) a (rw (length-words_of n b cells) h))
 
--- past the end nothing is replaced
+-- past the last word nothing is replaced
 pub unset : (n b : ℕ) (cells : List ℕ) (a w : ℕ) → length cells / n ≤ a → words_of n b cells ≡ set (words_of n b cells) a w
 unset n b cells a w h = sym (set_beyond (words_of n b cells) a w (rw (length-words_of n b cells) h))
 
@@ -72,21 +75,21 @@ module _ {C : Type 0} (n b : ℕ) (digits : List C → List ℕ) (count : (cells
   taken false used e = ap (λ k. words_of n b (digits (take k cells))) e ∙ ap (λ l. words_of n b (digits l)) (take-length cells)
 
   pub used_words : (used : ℕ) → used ≡ cond (is_some (make_of n (length cells))) 0 (length cells) → words_of n b (digits (take used cells)) ≡ usable n b (digits cells)
-  used_words used whole = taken (is_some (make_of n (length cells))) used whole ∙ ap (λ k. cond (is_some (make_of n k)) [] (words_of n b (digits cells))) (sym (count cells))
+  used_words used all_or_none = taken (is_some (make_of n (length cells))) used all_or_none ∙ ap (λ k. cond (is_some (make_of n k)) [] (words_of n b (digits cells))) (sym (count cells))
 
   pub used_size : (used : ℕ) → used ≡ cond (is_some (make_of n (length cells))) 0 (length cells) → used / n ≡ length (usable n b (digits cells))
-  used_size used whole =
-      ap (λ m. m / n) (sym (length-take-le used cells (none_or_all (is_some (make_of n (length cells))) (length cells) used whole)) ∙ sym (count (take used cells)))
+  used_size used all_or_none =
+      ap (λ m. m / n) (sym (length-take-le used cells (none_or_all (is_some (make_of n (length cells))) (length cells) used all_or_none)) ∙ sym (count (take used cells)))
       ∙ sym (length-words_of n b (digits (take used cells)))
-      ∙ ap length (used_words used whole)
+      ∙ ap length (used_words used all_or_none)
 
 -- lists made from functions of the index are equal where the functions are
 counted_same : (f g : ℕ → ℕ) (n : ℕ) → ((k : ℕ) → k < n → f k ≡ g k) → map f (range_with_len 0 n) ≡ map g (range_with_len 0 n)
 counted_same f g n h =
     fill_by_all g (map f (range_with_len 0 n)) n 0 (length-map-range_with_len f 0 n) (λ k l. get_or-map-range_with_len f 0 n k k 0 l (omega arith) ∙ h k l)
 
--- writing the n cells of the word at a
-module _ (n b : ℕ) (cells ds : List ℕ) (a : ℕ) (positive : 0 < n) (whole : length ds ≡ n) (below : a < length cells / n) where
+-- the n cells of the word at a are written
+module _ (n b : ℕ) (cells ds : List ℕ) (a : ℕ) (positive : 0 < n) (full : length ds ≡ n) (below : a < length cells / n) where
   within : n * a + n ≤ length cells
   within =
       let m : (a + 1) * n ≤ length cells = (le-div_iff_mul-le {k = n} {x = a + 1} {y = length cells} positive).0 (omega arith) in
@@ -103,7 +106,7 @@ module _ (n b : ℕ) (cells ds : List ℕ) (a : ℕ) (positive : 0 < n) (whole :
   outside j (inr l) = let w = within in search (rules, places)
 
   word_put_same : word_at n b written a ≡ number_from_digits b ds
-  word_put_same = ap (number_from_digits b) (sym (fill_by_all (λ k. get_or written (n * a + k) 0) ds n 0 whole (λ k l. sym (inside k l))))
+  word_put_same = ap (number_from_digits b) (sym (fill_by_all (λ k. get_or written (n * a + k) 0) ds n 0 full (λ k l. sym (inside k l))))
 
   word_put_other : (i : ℕ) → i ≢ a → word_at n b written i ≡ word_at n b cells i
   word_put_other i ne =
@@ -116,7 +119,7 @@ module _ (n b : ℕ) (cells ds : List ℕ) (a : ℕ) (positive : 0 < n) (whole :
       (λ (q : a ≤ i). inr (omega (arith, mul-le-mul_left {m = a + 1} {n = i} n (omega arith), mul-add n a 1)))
       (cases_lt i a))))
 
-  -- replaces that word, and no other
+  -- that replaces this word, and no other
   pub words_of-put : words_of n b written ≡ set (words_of n b cells) a (number_from_digits b ds)
   words_of-put =
       let same : length written ≡ length cells = let w = within in search (rules, places) in

@@ -5,17 +5,17 @@ ghost use Rattle.memory.specs.Refusals.{access_number, access_reason, access_tex
 use std::error::Error;
 use std::fmt;
 
-// Why a word is neither read nor written.
+/// Why a word is neither read nor written (docs/refusals.md).
 #[derive(Clone, Copy, Debug, PartialEq, Eq)]
 pub enum AccessRefusal {
-    // an address that is not below the size
+    /// 4: the word address is not below the size.
     OutOfRange = 4,
-    // a write below the mark
+    /// 5: the word that a write would replace lies below the mark.
     Protected = 5,
 }
 
 impl AccessRefusal {
-    // The number of the refusal: its discriminant. A cast asks for the enum's own type, so each enum has this function.
+    /// The number of the refusal: its discriminant (docs/refusals.md).
     pub fn number(self) -> u32
         ensures { result ≡ access_number self }
     {
@@ -33,7 +33,7 @@ impl AccessRefusal {
     }
 }
 
-// As that of every refusal: a Display for all types of a trait is not to be had.
+// "refused", the number, and the reason.
 impl fmt::Display for AccessRefusal {
     ghost output = { λ refusal. Some (access_text refusal) };
 

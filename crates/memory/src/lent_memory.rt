@@ -1,22 +1,22 @@
-// A memory over a lent buffer of cells.
+// The calls of a memory over a lent buffer.
 ghost use Rattle.std.specs.Prelude.{◌≡◌, length, is_some, if◌then◌else◌};
-ghost use Rattle.memory.specs.Buffers.{lent_meaning, lent_loan};
+ghost use Rattle.memory.specs.Buffers.{lent_meaning, lent_loan, cells_in, buffer_of};
 ghost use Rattle.memory.specs.Cells.{make_of, made_of};
 
 use crate::{AccessRefusal, Cell, LentMemory, MakeRefusal, Memory, ProtectRefusal};
 
-// A memory over a buffer of words.
+/// A memory over a buffer of words (docs/memory.md).
 pub type WordMemory<'a> = LentMemory<'a, u32>;
 
-// A memory over a buffer of bytes, four to a word.
+/// A memory over a buffer of bytes, four to a word, the most significant first (docs/memory.md).
 pub type ByteMemory<'a> = LentMemory<'a, u8>;
 
 impl<'a, C: Cell> LentMemory<'a, C> {
-    // A memory over the buffer as it is, with mark 0; of size 0 where the buffer is refused.
+    /// A memory over the buffer as it is, with mark 0. Where `refusal` refuses the buffer, the memory has size 0 (docs/memory.md).
     pub fn make(cells: &'a mut [C]) -> LentMemory<'a, C>
-        ensures meaning { lent_meaning C.PER_WORD C.base C.digits result ≡ made_of C.PER_WORD C.base (C.digits cells.old) }
-        ensures lender { result.cells.ghost_name ≡ cells.entry.ghost_name }
-        ensures buffer { result.cells.now ≡ cells.old }
+        ensures meaning { lent_meaning result ≡ made_of C.PER_WORD C.base (C.digits cells.old) }
+        ensures lender { buffer_of result ≡ cells.entry.ghost_name }
+        ensures buffer { cells_in result ≡ cells.old }
     {
         let used = used_of(cells);
         LentMemory {
@@ -26,7 +26,7 @@ impl<'a, C: Cell> LentMemory<'a, C> {
         }
     }
 
-    // Why make refuses the buffer (2, then 1), if it does. An Option, since it is the answer here and not a failure: make always gives a memory.
+    /// Why a memory over the buffer has size 0: refused with 2 where the buffer ends within a word, then with 1 where it has fewer than 16 words or more than 1,048,576, else none (docs/memory.md).
     pub fn refusal(cells: &[C]) -> Option<MakeRefusal>
         ensures { result ≡ make_of C.PER_WORD (length cells.now) }
     {
@@ -40,10 +40,10 @@ impl<'a, C: Cell> LentMemory<'a, C> {
         }
     }
 
-    // The buffer, given back as the calls left it.
+    /// The buffer that was lent, as the calls left it (docs/memory.md).
     pub fn into_cells(self) -> &'a mut [C]
-        ensures lender { result.ghost_name ≡ self.entry.cells.ghost_name }
-        ensures buffer { result.now ≡ self.entry.cells.now }
+        ensures lender { result.ghost_name ≡ buffer_of self.entry }
+        ensures buffer { result.now ≡ cells_in self.entry }
     {
         let LentMemory {
             cells,
@@ -54,7 +54,7 @@ impl<'a, C: Cell> LentMemory<'a, C> {
     }
 }
 
-// How many of these cells make words.
+// How many of the cells make words: all, or none where make refuses them.
 fn used_of<C: Cell>(cells: &[C]) -> usize
     ensures { result ≡ (if is_some (make_of C.PER_WORD (length cells.now)) then 0 else length cells.now) }
 {
@@ -66,11 +66,11 @@ fn used_of<C: Cell>(cells: &[C]) -> usize
 }
 
 impl<C: Cell> Memory for LentMemory<'_, C> {
-    ghost meaning = { lent_meaning C.PER_WORD C.base C.digits };
+    ghost meaning = { lent_meaning };
 
-    ghost loan = { lent_loan C.PER_WORD C.digits };
+    ghost loan = { lent_loan };
 
-    // The cast is proved to lose nothing; a try_from would answer a Result that is always Ok.
+    // the cast is proved to lose nothing
     #[tactic(auto, using(crate::proofs::Words::used_size))]
     fn size(&self) -> u32 {
         (self.used / C::PER_WORD) as u32
@@ -80,7 +80,7 @@ impl<C: Cell> Memory for LentMemory<'_, C> {
         self.mark.min(self.size())
     }
 
-    // One test, and not two: of the address against the cells that are used.
+    // one test for the size and the cells: of the address against the cells that make words
     #[tactic(auto, using(crate::proofs::Words::used_words))]
     fn read(&self, address: u32) -> Result<u32, AccessRefusal> {
         C::word_at(&self.cells[..self.used], address).ok_or(AccessRefusal::OutOfRange)

@@ -5,17 +5,17 @@ ghost use Rattle.memory.specs.Refusals.{make_number, make_reason, make_text};
 use std::error::Error;
 use std::fmt;
 
-// Why a buffer makes no memory.
+/// Why a memory over a buffer has size 0 (docs/refusals.md).
 #[derive(Clone, Copy, Debug, PartialEq, Eq)]
 pub enum MakeRefusal {
-    // fewer than 16 words or more than 1,048,576
+    /// 1: the buffer has fewer than 16 words or more than 1,048,576.
     WrongSize = 1,
-    // a length that is no whole number of words
+    /// 2: the buffer ends within a word.
     BrokenWord = 2,
 }
 
 impl MakeRefusal {
-    // The number of the refusal: its discriminant. A cast asks for the enum's own type, so each enum has this function.
+    /// The number of the refusal: its discriminant (docs/refusals.md).
     pub fn number(self) -> u32
         ensures { result ≡ make_number self }
     {
@@ -33,7 +33,7 @@ impl MakeRefusal {
     }
 }
 
-// As that of every refusal: a Display for all types of a trait is not to be had.
+// "refused", the number, and the reason.
 impl fmt::Display for MakeRefusal {
     ghost output = { λ refusal. Some (make_text refusal) };
 

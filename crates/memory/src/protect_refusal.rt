@@ -5,15 +5,15 @@ ghost use Rattle.memory.specs.Refusals.{protect_number, protect_reason, protect_
 use std::error::Error;
 use std::fmt;
 
-// Why the mark stays.
+/// Why the mark stays (docs/refusals.md).
 #[derive(Clone, Copy, Debug, PartialEq, Eq)]
 pub enum ProtectRefusal {
-    // a mark below the present one or above the size
+    /// 6: the mark, a word address, is below the present one or above the size.
     WrongMark = 6,
 }
 
 impl ProtectRefusal {
-    // The number of the refusal: its discriminant. A cast asks for the enum's own type, so each enum has this function.
+    /// The number of the refusal: its discriminant (docs/refusals.md).
     pub fn number(self) -> u32
         ensures { result ≡ protect_number self }
     {
@@ -30,7 +30,7 @@ impl ProtectRefusal {
     }
 }
 
-// As that of every refusal: a Display for all types of a trait is not to be had.
+// "refused", the number, and the reason.
 impl fmt::Display for ProtectRefusal {
     ghost output = { λ refusal. Some (protect_text refusal) };
 

@@ -1,4 +1,4 @@
 pub mod Listing
 pub mod Published
 pub mod Store
-pub mod Worked
+pub mod WorkedExamples

@@ -8,6 +8,7 @@ use Labels.*
 use Values.*
 use Lines.*
 
+-- The lines of the microprogram, in the slides' order; a number in a comment is that of the slide. In the `do` each line is followed by the rest of the list.
 unfoldable pub listing : List Line
 listing = do
   -- (1)

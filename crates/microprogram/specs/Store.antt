@@ -1,40 +1,42 @@
--- The control store that holds the listing.
+-- What a control store that holds the listing is: where its lines lie, and what it has at every address.
 use Rattle.std.specs.Prelude.{◌≡◌, ℕ, ◌+◌, ◌<◌, Bool, true, false, List, [], ◌∷◌, map, length, ◌==◌, nat_lt, slice_index}
 use Rattle.microprogram.specs.Listing.{listing}
 use Rattle.microprogram.specs.Listing.Labels as label
 use Rattle.microprogram.specs.Listing.Labels.{Label, address}
-use Rattle.microprogram.specs.Listing.Lines.{Line, ◌▸◌, word, first, labels}
+use Rattle.microprogram.specs.Listing.Lines.{Line, ◌▸◌, word, first_address, labels}
 
--- At the address of each line stands the line's word.
+-- Each of some lines lies at its address: the number there is the line's word.
 unfoldable pub EachLineHeld : List ℕ → List Line → Type 0
 EachLineHeld numbers [] = Unit {0}
-EachLineHeld numbers ((l ▸ p) ∷ rest) = (slice_index numbers (address l) ≡ word address (first address rest) p) × EachLineHeld numbers rest
+EachLineHeld numbers ((l ▸ p) ∷ rest) = (slice_index numbers (address l) ≡ word address (first_address address rest) p) × EachLineHeld numbers rest
 
--- Whether a number is among others; whether no number stands twice; whether all are addresses of the control store.
+-- Whether a number is among some numbers.
 unfoldable pub among : ℕ → List ℕ → Bool
 among a [] = false
 among a (b ∷ rest) = elim (a == b) [ true ↦ true | false ↦ among a rest ]
 
+-- Whether no number is in a list twice.
 unfoldable pub distinct : List ℕ → Bool
 unfolding among
 distinct [] = true
 distinct (a ∷ rest) = elim (among a rest) [ true ↦ false | false ↦ distinct rest ]
 
+-- Whether all numbers of a list are addresses of the control store, which has 512 words.
 unfoldable pub within : List ℕ → Bool
 within [] = true
 within (a ∷ rest) = elim (nat_lt a 512) [ true ↦ within rest | false ↦ false ]
 
--- The addresses of the lines.
-unfoldable pub taken : List ℕ
+-- The addresses at which the listing's lines lie.
+unfoldable pub line_addresses : List ℕ
 unfolding labels listing
-taken = map address (labels listing)
+line_addresses = map address (labels listing)
 
--- The free addresses are the builder's choice: a line whose address is not required may lie anywhere, and where no line lies the store holds 0.
-abbrev pub Free : ℕ → Type 0
-Free a = among a taken ≡ false
+-- An unused address: one at which no line lies.
+abbrev pub Unused : ℕ → Type 0
+Unused a = among a line_addresses ≡ false
 
--- Where lines are required to lie: the interpreter's loop at 0x100, the first line of an instruction at its opcode, the wide lines at these with bit 8 set, T at F's address + 0x100.
-pub record Required : Type 0 where
+-- Where lines are required to lie: the interpreter's loop at 0x100; the first line of an instruction at its opcode; the first line of WIDE ILOAD and of WIDE ISTORE at the opcode of ILOAD and of ISTORE with bit 8 set; T at F's address + 0x100, since a jump on a flag sets bit 8.
+pub record RequiredAddresses : Type 0 where
   pub main : address label.Main1 ≡ 0x100
   pub nop : address label.nop1 ≡ 0x00
   pub bipush : address label.bipush1 ≡ 0x10
@@ -60,11 +62,17 @@ pub record Required : Type 0 where
   pub wide_istore : address label.wide_istore1 ≡ 0x136
   pub branch : address label.T ≡ address label.F + 0x100
 
--- The published control store: 512 numbers that hold the listing.
+-- The builder's choice of addresses: a line with a required address lies there, and each other line at any address below 512 that no other line has.
+pub record BuildersChoice : Type 0 where
+  -- the lines with a required address lie there
+  pub required : RequiredAddresses
+  -- every line lies in the store, and no two at one address
+  pub inside : within line_addresses ≡ true
+  pub apart : distinct line_addresses ≡ true
+
+-- Numbers of a control store that holds the listing: 512 of them, at the address of each line the line's word, and 0 at the unused addresses. Where the lines lie is the builder's choice.
 pub record HoldsTheListing (numbers : List ℕ) : Type 0 where
   pub size : length numbers ≡ 512
   pub lines : EachLineHeld numbers listing
-  pub free : (a : ℕ) → a < 512 → Free a → slice_index numbers a ≡ 0
-  pub inside : within taken ≡ true
-  pub apart : distinct taken ≡ true
-  pub required : Required
+  pub unused : (a : ℕ) → a < 512 → Unused a → slice_index numbers a ≡ 0
+  pub choice : BuildersChoice

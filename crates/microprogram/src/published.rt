@@ -4,7 +4,7 @@ ghost use Rattle.control.specs.Store.{fill_of};
 ghost use Rattle.control.specs.Numbers.{numbers_in};
 ghost use Rattle.microprogram.specs.Published.{published};
 ghost use Rattle.microprogram.specs.Store.{HoldsTheListing};
-ghost use Rattle.microprogram.specs.Worked.{WorkedExamples};
+ghost use Rattle.microprogram.specs.WorkedExamples.{WorkedExamples};
 
 use control::ControlStore;
 
@@ -523,7 +523,7 @@ const PUBLISHED: [u64; 512] = [
     0x000000000,
 ];
 
-// The numbers, which fill takes. Apart from the store, since they are answered by hand: so a planted error in the store is refused at its contract.
+// The numbers of the store, none of which fill refuses.
 fn numbers() -> [u64; 512]
     ensures value { result ≡ published }
     ensures accepted { fill_of result ≡ Ok tt }
@@ -533,7 +533,7 @@ fn numbers() -> [u64; 512]
     PUBLISHED
 }
 
-// The published control store.
+/// The published control store: the microprogram, 512 control words by address. The word of each line lies at the line's address, and an unused address holds 0. It is never refused (docs/microprogram.md).
 pub fn published_store() -> ControlStore
     ensures value { numbers_in result ≡ published }
     ensures listing { HoldsTheListing (numbers_in result) }

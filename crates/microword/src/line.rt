@@ -9,7 +9,7 @@ use notation::{Bits, Operations};
 use std::alloc::{AllocError, Global};
 use std::{fmt, str};
 
-// The text without the prefix 0x.
+// A text without the prefix 0x or 0X.
 #[tactic(auto, using(crate::proofs::Numerals::stripped))]
 fn without_prefix(text: &str) -> &str
     ensures { result.now ≡ unprefixed text.now }
@@ -39,7 +39,7 @@ fn read_digits(digits: &str) -> Option<u64>
     Some(number.min(0x10_0000_0000))
 }
 
-// The number of a text, with the prefix 0x or without; none where it is no hexadecimal number. It takes bytes, since a line may be no text.
+/// The number of a line, in hexadecimal, with the prefix `0x` or `0X` or without: its value, and 2^36 for every value from there on, which decode refuses alike. None where the line holds no hexadecimal number (docs/microword.md).
 #[tactic(auto, using(crate::proofs::Numerals::numeral_is_text))]
 pub fn number_in(text: &[u8]) -> Option<u64>
     ensures { ReadAs (unprefixed text.now) result }
@@ -57,7 +57,7 @@ fn take_apart(number: u64) -> Result<(ControlWord, u64), ControlRefusal>
     Ok((word, back))
 }
 
-// What a refusal of decode means; the refusal's own text is also for encode.
+// The reason of a refusal of decode, in words.
 #[derive(Drop)]
 struct Meaning(ControlRefusal);
 
@@ -73,7 +73,7 @@ impl fmt::Display for Meaning {
     }
 }
 
-// What is said of a number.
+// What is printed of a number.
 #[derive(Drop)]
 struct WordReport(u64);
 
@@ -88,7 +88,7 @@ impl fmt::Display for WordReport {
     }
 }
 
-// What is said of a line that holds a number, or none.
+// What is printed of a line that holds a number, or none.
 #[derive(Drop)]
 struct LineReport(Option<u64>);
 
@@ -103,7 +103,7 @@ impl fmt::Display for LineReport {
     }
 }
 
-// The report of a line, as a text of its own. Kept by a rule of the project, that no public promise goes; Display states the same text.
+/// What is printed of a line that holds a number, or none: the operations of its control word and its 36 bits, the refusal of decode with its number, or that it is no number. An error only where there is no memory for it (docs/microword.md).
 pub fn line_report(heap: Global, number: Option<u64>) -> Result<String, AllocError>
     ensures { IfOk result (λ s. string_bytes s ≡ line_report_of number) }
 {

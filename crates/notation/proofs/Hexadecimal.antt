@@ -21,12 +21,12 @@ zeros (suc k) = ap (λ m. digit_text_of (m % 16) ++ digits_text_of 0 k) (zero-di
 digits_last : (n k : ℕ) → digits_text_of n (suc k) ≡ digits_text_of (n / 16) k ++ digit_text_of (n % 16)
 digits_last n zero = ap (λ m. digit_text_of (m % 16) ++ []) (div-one n) ∙ append-nil _
 digits_last n (suc k) =
-    let place : n / 2 ^ (4 * suc k) ≡ n / 16 / 2 ^ (4 * k) = ap (λ p. n / p) (ap (λ e. 2 ^ e) {x = 4 * suc k} {y = 4 + 4 * k} (omega arith) ∙ pow-add 2 4 (4 * k)) ∙ sym (div-div-eq-div-mul n 16 (2 ^ (4 * k))) in
-    ap (λ m. digit_text_of (m % 16) ++ digits_text_of n (suc k)) place
+    let shifted : n / 2 ^ (4 * suc k) ≡ n / 16 / 2 ^ (4 * k) = ap (λ p. n / p) (ap (λ e. 2 ^ e) {x = 4 * suc k} {y = 4 + 4 * k} (omega arith) ∙ pow-add 2 4 (4 * k)) ∙ sym (div-div-eq-div-mul n 16 (2 ^ (4 * k))) in
+    ap (λ m. digit_text_of (m % 16) ++ digits_text_of n (suc k)) shifted
     ∙ ap (λ t. digit_text_of (n / 16 / 2 ^ (4 * k) % 16) ++ t) (digits_last n k)
     ∙ sym (append_assoc (digit_text_of (n / 16 / 2 ^ (4 * k) % 16)) (digits_text_of (n / 16) k) (digit_text_of (n % 16)))
 
--- the digits do not see what stands above them
+-- the lowest digits do not depend on the higher ones
 digits_low : (n k : ℕ) → digits_text_of (n % 16 ^ k) k ≡ digits_text_of n k
 digits_low n zero = refl
 digits_low n (suc k) =

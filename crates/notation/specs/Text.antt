@@ -9,11 +9,11 @@ use Rattle.control.specs.declared.b_bus.Source.TheVariants.{Mdr, Pc, Mbr, Mbru, 
 use Rattle.control.specs.Bus.{source_of}
 use Rattle.control.specs.AluTable.{function_of}
 
--- A text where a flag is on, else nothing.
+-- A text where a flag is on; the empty text where it is off.
 abbrev pub when : Bool → List ℕ → List ℕ
 when on text = cond on text []
 
--- What drives the bus, by name.
+-- The name of what drives the B bus.
 abbrev pub source_text_of : Option Source → List ℕ
 source_text_of None = codes "none"
 source_text_of (Some Mdr) = codes "MDR"
@@ -26,7 +26,7 @@ source_text_of (Some Cpp) = codes "CPP"
 source_text_of (Some Tos) = codes "TOS"
 source_text_of (Some Opc) = codes "OPC"
 
--- The permitted operations, with the bus's source by name.
+-- A function of the ALU's table as the slides write it, with H for A and the name of what drives the B bus for B.
 abbrev pub function_text_of : Function → List ℕ → List ℕ
 function_text_of A s = codes "H"
 function_text_of B s = s
@@ -45,14 +45,15 @@ function_text_of Zero s = codes "0"
 function_text_of One s = codes "1"
 function_text_of MinusOne s = codes "-1"
 
--- The inputs of the ALU, for signals that stand in no row of its table.
+-- The left input of the ALU, by ENA and INVA, for signals that are in no row of its table.
 abbrev pub left_text_of : ControlWord → List ℕ
 left_text_of w = cond w.ena (cond w.inva (codes "NOT H") (codes "H")) (cond w.inva (codes "-1") (codes "0"))
 
+-- The right input of the ALU, by ENB and the name of what drives the B bus, for signals that are in no row of its table.
 abbrev pub right_text_of : ControlWord → List ℕ → List ℕ
 right_text_of w s = cond w.enb s (codes "0")
 
--- What F0 and F1 make of them.
+-- What F0, F1 and INC make of the texts of the ALU's two inputs, for signals that are in no row of its table.
 abbrev pub chosen_text_of : (f0 f1 inc : Bool) → (a b : List ℕ) → List ℕ
 chosen_text_of false false inc a b = a ++ (codes " AND " ++ b)
 chosen_text_of false true inc a b = a ++ (codes " OR " ++ b)
@@ -60,17 +61,17 @@ chosen_text_of true false inc a b = codes "NOT " ++ b
 chosen_text_of true true false a b = a ++ (codes " + " ++ b)
 chosen_text_of true true true a b = a ++ (codes " + " ++ (b ++ codes " + 1"))
 
--- The function of the table where the signals have a row, else what the ALU's rule makes of its inputs.
+-- The result of the ALU: the function of its table where the signals have a row, else what its rule makes of the two inputs.
 abbrev pub result_text_of : Option Function → ControlWord → List ℕ → List ℕ
 result_text_of (Some f) w s = function_text_of f s
 result_text_of None w s = chosen_text_of w.f0 w.f1 w.inc (left_text_of w) (right_text_of w s)
 
--- The value on the C bus: the result, then the shift.
+-- The value on the C bus: the result of the ALU, then the shift.
 abbrev pub value_text_of : ControlWord → List ℕ
 value_text_of w =
     result_text_of (function_of w) w (source_text_of (source_of w.b)) ++ (when w.sll8 (codes " << 8") ++ when w.sra1 (codes " >> 1"))
 
--- The registers that the C bus loads, from the low end of the C bits.
+-- The registers that are written from the C bus, in the order of the C bits from the low end: MAR first, H last.
 abbrev pub registers_text_of : CBits → List ℕ
 registers_text_of c =
     when c.mar (codes "MAR = ")
@@ -83,30 +84,30 @@ registers_text_of c =
     ++ (when c.opc (codes "OPC = ")
     ++ when c.h (codes "H = "))))))))
 
--- The flags that the word jumps on.
+-- The flags on which a control word jumps.
 abbrev pub flags_text_of : ControlWord → List ℕ
 flags_text_of w = when w.jamn (codes "N = ") ++ when w.jamz (codes "Z = ")
 
--- Whether some register is loaded.
-abbrev pub loads : CBits → Bool
-loads c = c.mar || (c.mdr || (c.pc || (c.sp || (c.lv || (c.cpp || (c.tos || (c.opc || c.h)))))))
+-- Whether some register is written from the C bus.
+abbrev pub writes_registers : CBits → Bool
+writes_registers c = c.mar || (c.mdr || (c.pc || (c.sp || (c.lv || (c.cpp || (c.tos || (c.opc || c.h)))))))
 
--- Whether the word jumps on a flag.
+-- Whether a control word jumps on a flag.
 abbrev pub jumps : ControlWord → Bool
 jumps w = w.jamn || w.jamz
 
--- The assignment: to the registers that are loaded; where there is none, to the flags that the word jumps on; else nothing is assigned.
+-- The assignment of a control word: to the registers that are written; where none is, to the flags that the word jumps on; where there are none of these either, the empty text.
 abbrev pub assignment_text_of : ControlWord → List ℕ
 assignment_text_of w =
-    cond (loads w.c) (registers_text_of w.c ++ (value_text_of w ++ codes "; "))
+    cond (writes_registers w.c) (registers_text_of w.c ++ (value_text_of w ++ codes "; "))
     (cond (jumps w) (flags_text_of w ++ (value_text_of w ++ codes "; "))
     [])
 
--- The memory operations.
+-- The memory operations of a control word, in the order wr, rd, fetch.
 abbrev pub memory_text_of : ControlWord → List ℕ
 memory_text_of w = when w.write (codes "wr; ") ++ (when w.read (codes "rd; ") ++ when w.fetch (codes "fetch; "))
 
--- A hexadecimal digit.
+-- The hexadecimal digit of a number below 16.
 abbrev pub digit_text_of : ℕ → List ℕ
 digit_text_of d =
     cond (d == 0) (codes "0")
@@ -126,37 +127,37 @@ digit_text_of d =
     (cond (d == 14) (codes "E")
     (codes "F")))))))))))))))
 
--- The lowest hexadecimal digits of a number, so many of them, the highest first.
+-- So many hexadecimal digits of a number, the lowest ones, the most significant of them first.
 abbrev pub digits_text_of : ℕ → ℕ → List ℕ
 digits_text_of n zero = []
 digits_text_of n (suc k) = digit_text_of (n / 2 ^ (4 * k) % 16) ++ digits_text_of n k
 
--- An address of the control store: three digits, or four where NEXT is wider than its bits.
+-- An address of the control store: three hexadecimal digits, or four from 0x1000 on.
 abbrev pub address_text_of : ℕ → List ℕ
 address_text_of n = codes "0x" ++ digits_text_of n (cond (nat_le (16 ^ 3) n) 4 3)
 
--- The 36 bits of a control word: nine digits.
+-- The 36 bits of a control word: nine hexadecimal digits.
 abbrev pub word_text_of : ℕ → List ℕ
 word_text_of n = codes "0x" ++ digits_text_of n 9
 
--- Where a word goes, given NEXT: there, or there ORed with MBR.
-abbrev pub place_text_of : Bool → ℕ → List ℕ
-place_text_of false next = address_text_of next
-place_text_of true next = cond (next == 0) (codes "(MBR)") (codes "(MBR OR " ++ (address_text_of next ++ codes ")"))
+-- Where a control word goes, by JMPC and NEXT: to NEXT, or to NEXT ORed with MBR.
+abbrev pub destination_text_of : Bool → ℕ → List ℕ
+destination_text_of false next = address_text_of next
+destination_text_of true next = cond (next == 0) (codes "(MBR)") (codes "(MBR OR " ++ (address_text_of next ++ codes ")"))
 
--- The flag that decides, or the two.
+-- The flag or the flags on which a control word jumps, by JAMN and JAMZ; it is part of the text only of a word that jumps.
 abbrev pub test_text_of : (jamn jamz : Bool) → List ℕ
 test_text_of false jamz = codes "Z"
 test_text_of true false = codes "N"
 test_text_of true true = codes "N OR Z"
 
--- The successor: a jump on a flag sets bit 8 of the address.
+-- The successor of a control word: where it goes, and where it jumps on a flag, with bit 8 of the address set.
 abbrev pub successor_text_of : ControlWord → List ℕ
 successor_text_of w =
     cond (jumps w)
-    (codes "if (" ++ (test_text_of w.jamn w.jamz ++ (codes ") goto " ++ (place_text_of w.jmpc (bit_or w.next 256) ++ (codes "; else goto " ++ place_text_of w.jmpc w.next)))))
-    (codes "goto " ++ place_text_of w.jmpc w.next)
+    (codes "if (" ++ (test_text_of w.jamn w.jamz ++ (codes ") goto " ++ (destination_text_of w.jmpc (bit_or w.next 256) ++ (codes "; else goto " ++ destination_text_of w.jmpc w.next)))))
+    (codes "goto " ++ destination_text_of w.jmpc w.next)
 
--- The whole line.
+-- A control word in the notation of the slides: its assignment, its memory operations, and its successor.
 abbrev pub operations_text_of : ControlWord → List ℕ
 operations_text_of w = assignment_text_of w ++ (memory_text_of w ++ successor_text_of w)

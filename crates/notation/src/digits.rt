@@ -19,7 +19,7 @@ impl fmt::Display for Address {
     }
 }
 
-// The 36 bits of a control word.
+/// The 36 lowest bits of a number, displayed as `0x` and nine hexadecimal digits: the number of a control word (docs/control-words.md).
 #[derive(Clone, Copy, Debug, PartialEq, Eq)]
 pub struct Bits(pub u64);
 
@@ -33,7 +33,7 @@ impl fmt::Display for Bits {
     }
 }
 
-// The 36 bits of a control word, as a text of its own. Kept by a rule of the project, that no public promise goes; Display states the same text.
+/// The text that `Bits` displays, in a `String`. An error only where there is no memory for it (docs/control-words.md).
 pub fn word_text(heap: Global, number: u64) -> Result<String, AllocError>
     ensures { IfOk result (λ s. string_bytes s ≡ word_text_of number) }
 {

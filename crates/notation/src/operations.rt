@@ -1,6 +1,6 @@
 // The operations of a control word, as text.
 ghost use Rattle.std.specs.Prelude.{◌≡◌, Some, IfOk, string_bytes};
-ghost use Rattle.notation.specs.Text.{registers_text_of, loads, jumps, assignment_text_of, memory_text_of, place_text_of, test_text_of, successor_text_of, operations_text_of};
+ghost use Rattle.notation.specs.Text.{registers_text_of, writes_registers, jumps, assignment_text_of, memory_text_of, destination_text_of, test_text_of, successor_text_of, operations_text_of};
 
 use crate::digits::Address;
 use crate::values::{Value, When};
@@ -8,7 +8,7 @@ use control::{CBits, ControlWord};
 use std::alloc::{AllocError, Global};
 use std::fmt;
 
-// The registers that the C bus loads.
+// The registers that are written from the C bus, each with an equals sign behind it.
 #[derive(Drop)]
 struct Registers<'a>(&'a CBits);
 
@@ -30,9 +30,9 @@ impl fmt::Display for Registers<'_> {
     }
 }
 
-// Whether some register is loaded.
-fn loads_any(c: &CBits) -> bool
-    ensures { result ≡ loads c.now }
+// Whether some register is written from the C bus.
+fn writes_any(c: &CBits) -> bool
+    ensures { result ≡ writes_registers c.now }
 {
     c.mar || c.mdr || c.pc || c.sp || c.lv || c.cpp || c.tos || c.opc || c.h
 }
@@ -44,7 +44,7 @@ fn jumps_on_flag(word: &ControlWord) -> bool
     word.jamn || word.jamz
 }
 
-// What is assigned, and to what.
+// What is assigned, and to which registers or flags.
 #[derive(Drop)]
 struct Assignment<'a>(&'a ControlWord);
 
@@ -54,7 +54,7 @@ impl fmt::Display for Assignment<'_> {
     fn fmt<W: fmt::Write>(&self, f: &mut fmt::Formatter<W>) -> fmt::Result {
         let word = self.0;
         let value = Value(word);
-        if loads_any(&word.c) {
+        if writes_any(&word.c) {
             let registers = Registers(&word.c);
             return write!(f, "{registers}{value}; ");
         }
@@ -82,15 +82,15 @@ impl fmt::Display for MemoryOperations<'_> {
     }
 }
 
-// Where a word goes.
+// Where a word goes: to NEXT, or to NEXT ORed with MBR.
 #[derive(Drop)]
-struct Place {
+struct Destination {
     jmpc: bool,
     next: u16,
 }
 
-impl fmt::Display for Place {
-    ghost output = { λ p. Some (place_text_of p.jmpc p.next) };
+impl fmt::Display for Destination {
+    ghost output = { λ d. Some (destination_text_of d.jmpc d.next) };
 
     fn fmt<W: fmt::Write>(&self, f: &mut fmt::Formatter<W>) -> fmt::Result {
         let address = Address(self.next);
@@ -102,7 +102,7 @@ impl fmt::Display for Place {
     }
 }
 
-// The flag that decides, or the two: a name that is chosen whole is a &str.
+// The flag or the flags on which a word jumps.
 fn test_name(jamn: bool, jamz: bool) -> &'static str
     ensures { result.now ≡ test_text_of jamn jamz }
 {
@@ -113,7 +113,7 @@ fn test_name(jamn: bool, jamz: bool) -> &'static str
     }
 }
 
-// The successor.
+// Where a word goes, and where it jumps on a flag.
 #[derive(Drop)]
 struct Successor<'a>(&'a ControlWord);
 
@@ -123,23 +123,23 @@ impl fmt::Display for Successor<'_> {
     fn fmt<W: fmt::Write>(&self, f: &mut fmt::Formatter<W>) -> fmt::Result {
         let word = self.0;
         let jmpc = word.jmpc;
-        let place = Place {
+        let destination = Destination {
             jmpc,
             next: word.next,
         };
         if !jumps_on_flag(word) {
-            return write!(f, "goto {place}");
+            return write!(f, "goto {destination}");
         }
         let test = test_name(word.jamn, word.jamz);
-        let jump = Place {
+        let jump = Destination {
             jmpc,
             next: word.next | 0x100,
         };
-        write!(f, "if ({test}) goto {jump}; else goto {place}")
+        write!(f, "if ({test}) goto {jump}; else goto {destination}")
     }
 }
 
-// The operations of a control word.
+/// The operations of a control word, displayed as text: what is assigned, `wr`, `rd` and `fetch`, and the successor (docs/control-words.md).
 #[derive(Clone, Copy, Debug, PartialEq, Eq)]
 pub struct Operations<'a>(pub &'a ControlWord);
 
@@ -155,7 +155,7 @@ impl fmt::Display for Operations<'_> {
     }
 }
 
-// The operations of a control word, in the notation of the textbook's slides, as a text of its own. Kept by a rule of the project, that no public promise goes; Display states the same text.
+/// The text that `Operations` displays, in a `String`. An error only where there is no memory for it (docs/control-words.md).
 pub fn operations_text(heap: Global, word: &ControlWord) -> Result<String, AllocError>
     ensures { IfOk result (λ s. string_bytes s ≡ operations_text_of word.now) }
 {

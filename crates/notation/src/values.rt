@@ -6,7 +6,7 @@ ghost use Rattle.control.specs.AluTable.{function_of};
 use control::{ControlWord, Function, Source};
 use std::fmt;
 
-// A text where a flag is on, else nothing: the two parts of the definition `when`. An Option would be made of them at each use.
+// A text, displayed where the flag is on.
 #[derive(Drop)]
 pub(crate) struct When(pub(crate) bool, pub(crate) &'static str);
 
@@ -18,7 +18,7 @@ impl fmt::Display for When {
     }
 }
 
-// The name of what drives the bus. A name that is chosen whole is a &str, which Display then writes; so are the inputs' names.
+// The name of what drives the B bus.
 fn source_name(source: Option<Source>) -> &'static str
     ensures { result.now ≡ source_text_of source }
 {
@@ -36,7 +36,7 @@ fn source_name(source: Option<Source>) -> &'static str
     }
 }
 
-// A function of the ALU's table, with the bus's source by name.
+// A function of the ALU's table, with the name of what drives the B bus.
 #[derive(Drop)]
 struct PermittedFunction {
     function: Function,
@@ -69,7 +69,7 @@ impl fmt::Display for PermittedFunction {
     }
 }
 
-// The left input of the ALU, a name that is chosen whole.
+// The left input of the ALU.
 fn left_name(word: &ControlWord) -> &'static str
     ensures { result.now ≡ left_text_of word.now }
 {
@@ -81,14 +81,14 @@ fn left_name(word: &ControlWord) -> &'static str
     }
 }
 
-// The right input of the ALU, a name that is chosen whole.
+// The right input of the ALU.
 fn right_name(word: &ControlWord, source: &'static str) -> &'static str
     ensures { result.now ≡ right_text_of word.now source.now }
 {
     if word.enb { source } else { "0" }
 }
 
-// What F0 and F1 make of the inputs.
+// What F0, F1 and INC make of the two inputs.
 #[derive(Drop)]
 struct ChosenOperation<'a> {
     word: &'a ControlWord,
@@ -135,7 +135,7 @@ impl fmt::Display for AluResult<'_> {
     }
 }
 
-// The value on the C bus.
+// The value on the C bus: the result of the ALU, then the shift.
 #[derive(Drop)]
 pub(crate) struct Value<'a>(pub(crate) &'a ControlWord);
 

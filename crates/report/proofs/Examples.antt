@@ -1,12 +1,12 @@
--- The worked cases.
-use Rattle.std.proofs.Common.{◌≡◌, ◌++◌, Some, pos, refl}
+-- The worked examples.
+use Rattle.std.proofs.Common.{◌≡◌, ◌++◌, Some, pos, refl, arith}
 use Rattle.memory.specs.Meaning.{Meaning, size_of}
 use Rattle.microprogram.proofs.Worked.{worked_examples}
 use Rattle.report.specs.declared.lines.Report.{Report}
 use Rattle.std.specs.Fmt.{digits}
 use Rattle.std.specs.Prelude.{codes}
 use Rattle.report.specs.Report.{newline, report_text}
-use Rattle.report.specs.Worked.{WritesAtItsEdges, WorkedCases}
+use Rattle.report.specs.JointExamples.{WritesAtItsEdges, JointExamples}
 use Rattle.report.proofs.Summing.{prints, word_15}
 
 edges : (m : Meaning) → size_of m ≡ 32 → m.mark ≡ 9 → WritesAtItsEdges m
@@ -17,8 +17,8 @@ lines : report_text (record { end = 38; steps = 28; cycles = 177; top = Some (po
 unfolding digits
 lines = refl
 
-pub worked_cases : (r : Report) → r ≡ record { end = 38; steps = 28; cycles = 177; top = Some (pos 6) } → WorkedCases r
-unfolding WorkedCases
-worked_cases r e =
+pub joint_examples : (r : Report) → r ≡ record { end = 38; steps = 28; cycles = 177; top = Some (pos 6) } → JointExamples r
+unfolding JointExamples
+joint_examples r e =
     rw e
-    (record { control_words = worked_examples; edges = edges; lines = lines; numbers = (refl, refl); prints = prints; word_15 = word_15 })
+    (record { control_words = worked_examples; edges = edges; lines = lines; numbers = (refl, refl); prints = prints 3 (omega arith) (omega arith); word_15 = word_15 3 (omega arith) (omega arith) })

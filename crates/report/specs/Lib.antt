@@ -1,2 +1,3 @@
 pub mod Report
-pub mod Worked
+pub mod SummingImage
+pub mod JointExamples

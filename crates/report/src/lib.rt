@@ -1,10 +1,12 @@
-// What a run of an image comes to: the four lines that the program prints.
+// A run of an image, and the four lines that the program prints of it.
 #![tactic(auto)]
 
 mod lines;
 mod running;
-mod worked;
+mod summing_image;
+mod worked_examples;
 
 pub use lines::Report;
 pub use running::{memory_size, run_image, run_in};
-pub use worked::the_worked_cases;
+pub use summing_image::the_summing_image_prints;
+pub use worked_examples::the_worked_examples;

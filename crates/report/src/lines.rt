@@ -1,19 +1,19 @@
-// The four lines.
+// The report of a run.
 ghost use Rattle.std.specs.Prelude.{Some};
 ghost use Rattle.report.specs.Report.{report_text};
 
 use std::fmt;
 
-// Where a run ended, and what it came to.
+/// The report of a load and a run, printed as four lines (docs/program.md).
 #[derive(Clone, Copy, Debug, PartialEq, Eq)]
 pub struct Report {
-    // the number of the refusal that stopped the run, or load's; 0 where all steps were done
+    /// The number of the refusal that stopped the run, or of load's refusal; 0 where all steps were done.
     pub end: u32,
-    // the steps that were performed
+    /// The steps that were performed.
     pub steps: u64,
-    // the cycles that the counter shows
+    /// The cycles, as the counter has them.
     pub cycles: u64,
-    // the top of the operand stack, as a signed number; none where the stack is empty, or the image was refused
+    /// The top of the operand stack, as a signed number; none where the depth is 0, or the image was refused.
     pub top: Option<i32>,
 }
 

@@ -1,7 +1,7 @@
--- The instructions by name.
+-- The names of the instructions.
 use Rattle.std.specs.Prelude.{ℕ, cond, List, codes, ◌==◌}
 
--- The instruction of an opcode, by name.
+-- The name of the instruction with this opcode, and `(unknown)` where no instruction has it.
 abbrev pub mnemonic_text_of : ℕ → List ℕ
 mnemonic_text_of opcode =
     cond (opcode == 0x00) (codes "NOP")

@@ -2,10 +2,12 @@
 use datapath::{DataAccess, State};
 use std::fmt;
 
-// The state before a cycle and the one after it. Displayed are the registers and the word that changed, then what is under way now.
+/// The state before a cycle and the state after it. Displayed is what changed: the registers and MBR with their new values as signed numbers, the word that was written, and in parentheses what is under way after the cycle (docs/trace.md).
 #[derive(Clone, Copy, Debug, PartialEq, Eq)]
 pub struct Changes {
+    /// The state before the cycle.
     pub before: State,
+    /// The state after the cycle.
     pub after: State,
 }
 

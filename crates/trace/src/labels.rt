@@ -1,4 +1,4 @@
-// The labels of the published listing, by the address of the line. A list that is searched: as a match it would be a function of 113 arms, and as a map it would have to be built in each run.
+// The labels of the published listing, each with the address of its line, in the slides' order. Where a line has no required address, its address is the builder's choice.
 
 const LABELS: [(u16, &str); 113] = [
     (0x100, "Main1"),
@@ -116,10 +116,10 @@ const LABELS: [(u16, &str); 113] = [
     (0x061, "ireturn8"),
 ];
 
-// The label of the line at an address, a &str that is chosen whole; a free address has none.
+/// The label of the line at an address of the published control store; an unused address has none, and `(unused)` is answered (docs/trace.md).
 pub fn label(address: u16) -> &'static str {
     LABELS
         .iter()
         .find(|(at, _)| *at == address)
-        .map_or("(free)", |(_, label)| *label)
+        .map_or("(unused)", |(_, label)| *label)
 }

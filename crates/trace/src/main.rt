@@ -1,4 +1,4 @@
-// Traces the program of an image cycle by cycle, and shows where the cycles of its loop come from.
+// Traces the program of an image cycle by cycle, and prints where the cycles of its loop come from.
 #![tactic(auto)]
 
 mod changes;
@@ -14,7 +14,7 @@ use report::memory_size;
 use run::run;
 use std::io::Read;
 
-// As many bytes as are read.
+// As many bytes of the image as are read.
 const MOST_BYTES: u64 = 32_768;
 
 fn main(rt: HostRuntime) -> anyhow::Result<()> {

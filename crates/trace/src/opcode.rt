@@ -1,15 +1,15 @@
-// The instructions by name.
+// The names of the instructions.
 ghost use Rattle.std.specs.Prelude.{◌≡◌, Some};
 ghost use Rattle.trace.specs.Mnemonics.{mnemonic_text_of};
 
 use std::fmt;
 
-// An opcode, displayed as the name of its instruction. The bytes that are no opcode have an arm since a match needs one; no performed instruction has one.
+/// A byte as an opcode, displayed as the name of its instruction, and as `(unknown)` where no instruction has it (docs/trace.md).
 #[derive(Clone, Copy, Debug, PartialEq, Eq)]
 pub struct Opcode(pub u8);
 
 impl Opcode {
-    // The name of the instruction: a &str that is chosen whole, which Display then writes.
+    // The name of the instruction.
     fn name(self) -> &'static str
         ensures { result.now ≡ mnemonic_text_of self.0 }
     {

@@ -10,17 +10,21 @@ use instructions::StepRefusal;
 use memory::Memory;
 use microprogram::published_store;
 
-// As many cycles as are traced. No instruction takes fewer than two, so of half as many instructions and one more the last is refused or goes past them.
+// As many cycles as are traced. No instruction takes fewer than two, so of half as many instructions and one more the last is refused or takes more than are left.
 const MOST_CYCLES: u64 = 10_000;
 
 const MOST_INSTRUCTIONS: u64 = MOST_CYCLES / 2 + 1;
 
-// An instruction that was performed: where it stood, in which frame, which it was, and its cycles.
+/// An instruction that was performed (docs/trace.md).
 #[derive(Clone, Copy, Debug, PartialEq, Eq)]
 pub struct Performed {
+    /// Its byte address.
     pub address: u32,
+    /// The LV of the frame that it was performed in, a word address.
     pub frame: u32,
+    /// Its opcode.
     pub opcode: Opcode,
+    /// The cycles that it took.
     pub cycles: u64,
 }
 
@@ -29,11 +33,11 @@ pub struct Performed {
 enum Ending {
     // the next step is refused
     Refused(StepRefusal),
-    // the next instruction would go past the cycles that are traced
+    // the next instruction would take more cycles than are left to trace
     Cut,
 }
 
-// So many cycles, each printed.
+// Does so many cycles, and prints each.
 fn cycles<M: Memory>(
     rt: &impl Print,
     machine: &mut Machine<M>,
@@ -52,7 +56,7 @@ fn cycles<M: Memory>(
     Ok(())
 }
 
-// The instructions of two machines with the same program. One is stepped, and tells how many cycles the instruction takes or why it is refused; the other does these cycles one by one.
+// Performs the instructions of two machines with the same program. One is stepped, and tells how many cycles the instruction takes or why it is refused; the other does these cycles one by one.
 fn trace<R: Print + AllocGlobal, M: Memory>(
     rt: &R,
     stepped: &mut Machine<M>,
@@ -84,7 +88,7 @@ fn trace<R: Print + AllocGlobal, M: Memory>(
     Ok((performed, Ending::Cut))
 }
 
-// Loads the image into both machines, traces its program, and reports on it; of an image that is refused it tells the refusal.
+/// Loads the image into both machines, traces its program, and prints where the cycles of its loop come from. The first machine is stepped, the second does the same cycles one by one. Of an image that is refused the refusal is printed (docs/trace.md).
 pub fn run<R: Print + AllocGlobal, M: Memory>(
     rt: &R,
     stepped: &mut Machine<M>,

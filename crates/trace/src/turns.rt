@@ -17,9 +17,8 @@ impl Sum<'_> {
 
 impl fmt::Display for Sum<'_> {
     fn fmt<W: fmt::Write>(&self, f: &mut fmt::Formatter<W>) -> fmt::Result {
-        // the place tells only whether a sign stands before
-        for (place, done) in self.0.iter().enumerate() {
-            if place > 0 {
+        for (index, done) in self.0.iter().enumerate() {
+            if index > 0 {
                 write!(f, " + ")?;
             }
             write!(f, "{}", done.cycles)?;
@@ -50,12 +49,12 @@ impl Loop {
             })
     }
 
-    // Whether an instruction stands at the head.
+    // Whether an instruction is the one at the head.
     fn begins(&self, done: &Performed) -> bool {
         done.frame == self.frame && done.address == self.head
     }
 
-    // Whether an instruction can belong to a turn: it stands between head and jump, or in a method that is called.
+    // Whether an instruction can belong to a turn: it lies between head and jump, or in a method that is called.
     fn holds(&self, done: &Performed) -> bool {
         if done.frame == self.frame {
             (self.head..=self.jump).contains(&done.address)
@@ -86,7 +85,7 @@ fn report_loop<R: Print + AllocGlobal>(
     Ok(())
 }
 
-// The turns of the loop, if there is one, and all cycles.
+/// Prints the turns of the loop of the first jump back, if there is one, and the cycles of all instructions (docs/trace.md).
 pub fn report<R: Print + AllocGlobal>(rt: &R, performed: &[Performed]) -> anyhow::Result<()> {
     match Loop::first(performed) {
         Some(round) => report_loop(rt, performed, round)?,

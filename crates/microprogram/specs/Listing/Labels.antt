@@ -1,6 +1,7 @@
 -- The labels of the microprogram, in the slides' order, and the address of each line in the control store.
 use Rattle.std.specs.Prelude.{ℕ}
 
+-- The labels of the lines, in the slides' order.
 pub data Label : Type 0 where
   Main1 : Label
   nop1 : Label
@@ -29,6 +30,7 @@ pub data Label : Type 0 where
   invokevirtual17 invokevirtual18 invokevirtual19 invokevirtual20 invokevirtual21 invokevirtual22 : Label
   ireturn1 ireturn2 ireturn3 ireturn4 ireturn5 ireturn6 ireturn7 ireturn8 : Label
 
+-- The address of each line in the control store. Some are required (`RequiredAddresses` of Store.antt); the others are the builder's choice: here the lowest addresses that no required line has, in the slides' order.
 unfoldable pub address : Label → ℕ
 address Main1 = 0x100
 address nop1 = 0x000

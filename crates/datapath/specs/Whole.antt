@@ -1,9 +1,0 @@
--- A machine of the code, by what its memory means and its state.
-use Rattle.memory.specs.Meaning.{Meaning}
-use Rattle.datapath.specs.declared.datapath_type.Datapath.{Datapath}
-use Rattle.datapath.specs.Cycle.{Micro}
-use Rattle.datapath.specs.Held.{micro_with}
-
--- Its memory's meaning, and its state.
-abbrev pub micro_of : {M : Type 0} → (M → Meaning) → Datapath M → Micro
-micro_of meaning d = micro_with meaning d.memory d.file d.sequencer
