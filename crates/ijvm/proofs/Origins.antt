@@ -9,7 +9,7 @@ use Rattle.datapath.specs.declared.pending.DataAccess.{DataAccess}
 use Rattle.datapath.specs.declared.pending.DataAccess.TheVariants.{Read as Reading, Write as Writing}
 use Rattle.datapath.specs.declared.pending.Fault.{Fault}
 use Rattle.datapath.specs.Cycle.{Micro, cycle_of, answer_of, after_of}
-use Rattle.datapath.specs.Go.{CyclesDone, preceded_by, go_by, go_of}
+use Rattle.datapath.specs.Go.{CyclesDone, go_by, go_of}
 use Rattle.microprogram.specs.Published.{published}
 use Rattle.instructions.specs.declared.cases.Case.{Case}
 use Rattle.instructions.specs.declared.cases.Case.TheVariants.{Nop, Bipush, LdcW, Iload, Istore, Pop as PopCase, Dup, Swap, Iadd, Isub, Iand, Ior, Iinc, IfeqFalls, IfeqTaken, IfltFalls, IfltTaken, IfIcmpeqFalls, IfIcmpeqTaken, Goto, Ireturn, Invokevirtual, WideIload, WideIstore}
@@ -30,6 +30,7 @@ use Rattle.ijvm.specs.Calls.{step_reply_by, step_reply, EntryOrRefusal, AnswersB
 use Rattle.ijvm.specs.Start.{Fits, memory_checks, filled_word, start_of, fresh_of, after_start}
 use Rattle.ijvm.specs.Transitions.{Transition, step_transition, run_transition, start_transition}
 use Rattle.ijvm.specs.Reached.{beginning_of, Reached, Continues, Origin, HasOrigin, LaterLoadRefused, Simulated, Simulates, LoadedStandsFor}
+use Rattle.instructions.proofs.EveryCase.{no_fault, one_less}
 use Rattle.ijvm.proofs.Continued.{is_loaded_ijvm, step_of_reached, takes, further, total_both, step_continues, run_continues}
 use Rattle.ijvm.proofs.Started.{reached, marked, refused, load_continues}
 use Rattle.ijvm.specs.declared.start_refusal.StartRefusal.{StartRefusal}
@@ -67,20 +68,6 @@ ijvm_is : (k : MachineState) (o : Origin k) (s : Ijvm) → loaded_ijvm k ≡ Som
 ijvm_is k o s e = some_same o.state s (sym (is_loaded_ijvm k o.state o.reached.loaded o.reached.stands_for) ∙ e)
 
 -- The cycles that remain where the first of them were done.
-no_fault : (m n : Micro) (f : Fault) (d k : ℕ) → ◌≡◌ {A = CyclesDone} (record { done = d; fault = Some f; after = m }) (record { done = k; fault = None; after = n }) → ⊥
-no_fault m n f d k e = absurd (differs (ap (λ (g : CyclesDone). g.fault) e))
-  where
-    differs : ◌≡◌ {A = Option Fault} (Some f) None → ⊥
-    differs q = cc
-
-one_less : (g : CyclesDone) (a : ℕ) (n : Micro) → preceded_by 1 g ≡ record { done = suc a; fault = None; after = n } → g ≡ record { done = a; fault = None; after = n }
-one_less g a n e =
-    let d : 1 + g.done ≡ suc a = ap (λ (x : CyclesDone). x.done) e in
-    let d' : g.done ≡ a = omega arith in
-    let f : g.fault ≡ None = ap (λ (x : CyclesDone). x.fault) e in
-    let h : g.after ≡ n = ap (λ (x : CyclesDone). x.after) e in
-    rw (← d', ← f, ← h)
-
 behind : (a b : ℕ) (m n k : Micro) → go_of published a m ≡ record { done = a; fault = None; after = n }
     → go_of published (a + b) m ≡ record { done = a + b; fault = None; after = k } → go_of published b n ≡ record { done = b; fault = None; after = k }
 behind zero b m n k e f =

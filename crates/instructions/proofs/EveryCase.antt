@@ -55,11 +55,11 @@ pub case_takes : (c : Case) (cycles : ℕ) → cycles ≡ cycles_of c → CaseTa
 unfolding CaseTakes
 case_takes c cycles e = rw e (every_case c)
 
--- Cycles after cycles.
-no_fault : (m n : Micro) (f : Fault) (d k : ℕ) → ◌≡◌ {A = CyclesDone} (record { done = d; fault = Some f; after = m }) (all_done k n) → ⊥
+-- Cycles after cycles, none of which was refused.
+pub no_fault : (m n : Micro) (f : Fault) (d k : ℕ) → ◌≡◌ {A = CyclesDone} (record { done = d; fault = Some f; after = m }) (all_done k n) → ⊥
 no_fault m n f d k e = let q = ap (λ (g : CyclesDone). g.fault) e in let z : ◌≡◌ {A = ℕ} 0 1 = cc in omega arith
 
-one_less : (g : CyclesDone) (a : ℕ) (n : Micro) → preceded_by 1 g ≡ all_done (suc a) n → g ≡ all_done a n
+pub one_less : (g : CyclesDone) (a : ℕ) (n : Micro) → preceded_by 1 g ≡ all_done (suc a) n → g ≡ all_done a n
 one_less g a n e =
     let d : 1 + g.done ≡ suc a = ap (λ (x : CyclesDone). x.done) e in
     let d' : g.done ≡ a = omega arith in
