@@ -1,4 +1,4 @@
--- The fields in the 36 bits of a control word, from the high end. Bit 0 is the lowest; B is the 4 bits from 3 down to 0.
+-- The fields in the 36 bits of a control word, from the high end, each by the number of its lowest bit. Bit 0 is the lowest of the word; B is the 4 bits from 3 down to 0.
 use Rattle.std.specs.Prelude.{ℕ}
 
 -- NEXT is the 9 bits from 35 down to 27: the address of the next control word.

@@ -15,7 +15,7 @@ use Rattle.control.specs.Control.{fields_of}
 use Rattle.control.specs.Bus.{source_of, bus_of}
 use Rattle.control.specs.Alu.{result_of, negative, shift_of}
 
--- A Mic-1: what its memory means, and its state.
+-- A Mic-1: what its memory means, and its state: the registers, MBR, MPC, a counter of the cycles, and the read or write and the fetch under way, if any, which the last cycle began and the next completes.
 pub record Micro : Type 0 where
   pub memory : Meaning
   pub state : State
@@ -126,7 +126,7 @@ begun_data w r mpc = cond w.write (Some (Writing r.mar mpc r.mdr)) (cond w.read 
 abbrev pub begun_fetch : ControlWord → Registers → ℕ → Option FetchAccess
 begun_fetch w r mpc = cond w.fetch (Some (record { address = r.pc; mpc = mpc })) None
 
--- Point 6: MPC is set, and 1 added to the counter, modulo 2^64. This is the state after a cycle of the control word w in which a byte and a word may arrive.
+-- Point 6: MPC is set, and 1 added to the counter, modulo 2^64. This is the state after a cycle of the control word w in which a byte may arrive, into MBR, and a word, into MDR.
 abbrev pub advanced_of : ControlWord → State → (byte word : Option ℕ) → State
 advanced_of w s byte word = record {
   registers = registers_of w s word;

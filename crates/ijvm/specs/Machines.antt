@@ -1,4 +1,4 @@
--- A machine of the code: its state, and the memory that it holds.
+-- A machine, as a value of the Rust code: its state, and the memory that it holds.
 use Rattle.std.specs.Prelude.{Option}
 use Rattle.std.specs.Option.{option_map}
 use Rattle.memory.specs.Loans.{Loan}

@@ -38,7 +38,7 @@ pub record Reached (b : Beginning) (cases : List Case) (s : Ijvm) (m : MachineSt
   -- the program is loaded, with the state's pool count, and the machine stands for the state
   pub loaded : m.pool ≡ Some s.pool
   pub stands_for : StandsFor m.micro s
-  -- the sum of the table's entries in cycles from the beginning, none of them refused, leads to the machine; the counter is this sum
+  -- the sum of the table's entries in cycles from the beginning, none of them refused, leads to the machine; the counter is this sum, modulo 2^64
   pub cycles : go_of published (total cases) b.fresh ≡ record { done = total cases; fault = None; after = m.micro }
   pub counter : m.micro.state.counter ≡ total cases % 2 ^ 64
   -- the same of every front part of the instructions: the sum of its entries in cycles leads to a Mic-1 that stands for the state after it

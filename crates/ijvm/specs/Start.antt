@@ -46,7 +46,7 @@ start_of n word = record {
   mark = n.mark;
 }
 
--- The Mic-1 in which a program starts: the words are protected up to the mark, MBR is the byte at PC, MPC is 0x100, the counter and all other registers are 0, and nothing is under way.
+-- The Mic-1 in which a program starts: the words below the mark are protected, MBR is the byte at PC, MPC is 0x100, the counter and all other registers are 0, and nothing is under way.
 abbrev pub fresh_of : Numbers → (ℕ → ℕ) → Micro
 fresh_of n word = record {
   memory = record { words = start_words n word; mark = n.mark };

@@ -27,7 +27,7 @@ load_reply bytes m = record { answer = load_of bytes m.micro.memory; after = aft
 abbrev pub replying : {A : Type 0} → (A → Answer) → Reply A → Reply Answer
 replying as_answer r = record { answer = as_answer r.answer; after = r.after }
 
--- The reply to a call.
+-- The reply to a call. A call is a load of an image, a step, a run of up to so many steps, or a look at an address.
 abbrev pub reply_of : Call → MachineState → Reply Answer
 reply_of (Load bytes) m = replying Loaded (load_reply bytes.now m)
 reply_of Step m = replying Stepped (step_reply m)

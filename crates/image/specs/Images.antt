@@ -1,4 +1,4 @@
--- An image of the code.
+-- An image, as a value of the Rust code: its bytes, and the numbers of its program.
 use Rattle.std.specs.Prelude.{ℕ, List}
 use Rattle.ijvm.specs.declared.numbers.Numbers.{Numbers}
 use Rattle.image.specs.declared.image_type.Image.{Image}

@@ -26,7 +26,7 @@ pool_fits n = nat_le (n.cpp + n.pool) n.mark
 abbrev pub main_fits : (params : ℕ) → Numbers → Bool
 main_fits params n = nat_lt (n.main + 4) (4 * n.mark) && params == 1 && nat_lt (n.mark + n.locals + 2) n.size
 
--- What is asked of the numbers, in the order of their places: 23 with the place of the first that does not fit.
+-- What is asked of the numbers, in the order of their places, the words of block 0: the first that does not fit is refused with 23 and its place.
 unfoldable pub number_checks : (blocks params : ℕ) → Numbers → List (Check LoadRefusal)
 number_checks blocks params n =
     (size_fits n) else WrongNumber Size

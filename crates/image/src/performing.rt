@@ -48,9 +48,9 @@ fn perform_first<M: Memory>(
     }
 }
 
-/// Performs calls in their order, as many as there is room for in `answers`, and puts the answer of each at the call's index; how many these are. The answers behind them stay as they are.
+/// Performs calls in their order, as many as there is room for in `answers`, and puts the answer of each at the call's index; answers how many these are. The answers behind them stay as they are.
 ///
-/// This is the whole statement. If a program is loaded, the answers and the state afterwards are the instruction machine's, in exactly its cycles, and no load is accepted. Whatever history the machine has, the calls extend it. From each accepted load among them on, the machine has that image's history. Calls that were all refused, or looked, or ran no step, leave the memory as it is, in every cell of its buffers (docs/whole-statement.md).
+/// This is the whole statement. If a program was loaded before, the answers and the state afterwards are the instruction machine's, in exactly its cycles, and no load is accepted. Whatever history the machine has, the calls extend it. From each accepted load among them on, the machine has that image's history. Calls that were all refused, or looked, or ran no step, leave the memory as it is, in every cell of its buffers (docs/whole-statement.md).
 #[tactic(auto, using(crate::proofs::Histories::extends_history, crate::proofs::Histories::calls_simulate, crate::proofs::LaterLoads::no_load_accepted, ijvm::proofs::Origins::loaded_stands_for))]
 pub fn perform<M: Memory>(
     machine: &mut Machine<M>,

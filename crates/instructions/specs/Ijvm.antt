@@ -2,7 +2,7 @@
 use Rattle.std.specs.Prelude.{ℕ, ◌+◌, ◌-◌, ◌*◌, ◌/◌, ◌^◌, Bool, cond, ◌&&◌, List, length, Some, None, Option, nat_le, nat_lt, slice_index}
 use Rattle.datapath.specs.Cycle.{byte_in}
 
--- A state of IJVM. PC, SP, LV and the memory's words change; CPP, the pool count, the mark and the number of words are fixed. PC is a byte address; SP, LV and CPP are word addresses.
+-- A state of IJVM. PC, SP, LV and the memory's words change; CPP, the pool count, the mark and the number of words are fixed. PC is a byte address; SP, LV and CPP are word addresses. The constant pool is the words from CPP on, as many as the pool count; the words below the mark are protected.
 pub record Ijvm : Type 0 where
   pub pc : ℕ
   pub sp : ℕ
@@ -36,11 +36,11 @@ short_at s a = byte_at s a * 2 ^ 8 + byte_at s (a + 1)
 abbrev pub in_code : Ijvm → ℕ → Bool
 in_code s a = nat_lt a (4 * s.mark)
 
--- Link: the word at LV, which is the address at which the frame's variables end.
+-- Link: the word at LV, which is the address just behind the frame's variables. A called method has its return PC there.
 abbrev pub link_of : Ijvm → ℕ
 link_of s = word_at s s.lv
 
--- Base: link + 1. The operand stack lies above it.
+-- Base: link + 1, where a called method has its caller's LV. The operand stack lies above it.
 abbrev pub base_of : Ijvm → ℕ
 base_of s = link_of s + 1
 

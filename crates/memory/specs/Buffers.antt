@@ -23,6 +23,6 @@ lent_loan {C} {g} m = record { buffers = m.cells.ghost_name ∷ []; unused = unu
 abbrev pub cells_in : {C : Type 0} {g : Ghosts C} → LentMemory C g → List C
 cells_in m = m.cells.now
 
--- The name under which a memory holds its buffer. Where it is the lender's own, the buffer is the one that was lent.
+-- The name of the buffer that a memory lies in. Where it is the name of the buffer that was lent, the memory lies in that very buffer.
 abbrev pub buffer_of : {C : Type 0} {g : Ghosts C} → LentMemory C g → GName
 buffer_of m = m.cells.ghost_name

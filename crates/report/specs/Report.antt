@@ -51,7 +51,7 @@ report_by bytes steps m = report_of (load_reply bytes m).answer (loaded_run byte
 abbrev pub memory_after : List ℕ → ℕ → MachineState → Meaning
 memory_after bytes steps m = (loaded_run bytes steps m).after.micro.memory
 
--- The report of a run of the instruction machine: the number of the run, the steps, the sum of the table's entries for the instructions performed, and the top as a signed number.
+-- The report of a run of the instruction machine: the number of the run, the steps, the sum of the table's entries for the instructions performed, modulo 2^64, and the top as a signed number.
 abbrev pub report_of_transition : Transition Ran → Report
 report_of_transition t = record {
   end = stop_number t.answer.stopped;

@@ -30,7 +30,7 @@ pub data Label : Type 0 where
   invokevirtual17 invokevirtual18 invokevirtual19 invokevirtual20 invokevirtual21 invokevirtual22 : Label
   ireturn1 ireturn2 ireturn3 ireturn4 ireturn5 ireturn6 ireturn7 ireturn8 : Label
 
--- The address of each line in the control store. Some are required (`RequiredAddresses` of Store.antt); the others are the builder's choice: here the lowest addresses that no required line has, in the slides' order.
+-- The address of each line in the control store. Some are required (`RequiredAddresses` of Store.antt); the others are the builder's choice: here F lies at 0x001 and so T at 0x101, and all others at the lowest addresses that are left, in the slides' order.
 unfoldable pub address : Label → ℕ
 address Main1 = 0x100
 address nop1 = 0x000

@@ -85,7 +85,7 @@ abbrev pub 𝟏 : Value
 abbrev ordered : (Expression → Expression → Expression) → Expression → Expression → Expression
 ordered op e f = elim (same f A) [ yes _ ↦ op f e | no _ ↦ op e f ]
 
--- The sum of two values; a listing may write the two in either order.
+-- The sum of two values; a listing may write the two in either order. At most one of them comes by the B bus, and the other has the code 0, so the codes are added.
 abbrev pub ◌＋◌ : Value → Value → Value
 x ＋ y = register 0 (ordered Expression.◌＋◌ x.computes y.computes) (x.bus + y.bus)
 
