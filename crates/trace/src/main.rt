@@ -1,32 +1,39 @@
-// Traces the program of an image cycle by cycle, and prints where the cycles of its loop come from.
+// Traces the programs of images cycle by cycle, and prints where the cycles of their loops come from.
 #![tactic(auto)]
 
 mod changes;
+mod code;
+mod input;
+mod instruction;
 mod labels;
+mod loops;
 mod opcode;
+mod operand;
+mod parts;
+mod performed;
 mod run;
+mod summary;
 mod turns;
+mod visits;
+mod way;
 
-use control::Registers;
-use ijvm::Machine;
-use memory::WordMemory;
-use report::memory_size;
+use input::Source;
 use run::run;
-use std::io::Read;
-
-// As many bytes of the image as are read.
-const MOST_BYTES: u64 = 32_768;
+use std::env;
 
 fn main(rt: HostRuntime) -> anyhow::Result<()> {
     let heap = rt.alloc();
-    let mut image = Vec::new(heap);
-    rt.stdin().take(MOST_BYTES).read_to_end(&mut image)?;
-    let size = memory_size(&image);
-    let mut stepped_words = vec![in heap; 0u32; size]?;
-    let mut traced_words = vec![in heap; 0u32; size]?;
-    let memory = WordMemory::make(stepped_words.as_mut_slice());
-    let mut stepped = Machine::power(memory, Registers::default(), 0, 0);
-    let memory = WordMemory::make(traced_words.as_mut_slice());
-    let mut traced = Machine::power(memory, Registers::default(), 0, 0);
-    run(&rt, &mut stepped, &mut traced, &image)
+    let arguments = env::args(&rt)?.skip(1).collect::<Vec<String>>(heap)?;
+    if arguments.is_empty() {
+        return run(&rt, &Source::StandardInput.image(&rt)?);
+    }
+    for argument in &arguments {
+        let source = Source::named(argument.as_str());
+        let image = source.image(&rt)?;
+        if arguments.len() > 1 {
+            println!(rt; "== {source}")?;
+        }
+        run(&rt, &image)?;
+    }
+    Ok(())
 }

@@ -1,35 +1,27 @@
 // A program on the machine, cycle by cycle.
 use crate::changes::Changes;
+use crate::code::Code;
+use crate::instruction::Instruction;
 use crate::labels::label;
-use crate::opcode::Opcode;
-use crate::turns::report;
-use control::ControlStore;
+use crate::performed::{Performed, Place};
+use crate::summary::print_loops;
+use crate::way::Way;
+use control::{ControlStore, Registers};
 use ijvm::Machine;
-use image::load;
+use image::{Image, LoadRefusal};
 use instructions::StepRefusal;
-use memory::Memory;
+use memory::{Memory, WordMemory};
 use microprogram::published_store;
+use notation::Operations;
+use report::memory_size;
 
-// As many cycles as are traced. No instruction takes fewer than two, so of half as many instructions and one more the last is refused or takes more than are left.
+// The most cycles that are traced. No instruction takes fewer than two, so with half as many instructions and one more they are passed.
 const MOST_CYCLES: u64 = 10_000;
 
 const MOST_INSTRUCTIONS: u64 = MOST_CYCLES / 2 + 1;
 
-/// An instruction that was performed (docs/trace.md).
-#[derive(Clone, Copy, Debug, PartialEq, Eq)]
-pub struct Performed {
-    /// Its byte address.
-    pub address: u32,
-    /// The LV of the frame that it was performed in, a word address.
-    pub frame: u32,
-    /// Its opcode.
-    pub opcode: Opcode,
-    /// The cycles that it took.
-    pub cycles: u64,
-}
-
 // Why a trace ends.
-#[derive(Clone, Copy, Debug, PartialEq, Eq)]
+#[derive(Clone, Copy, PartialEq, Eq)]
 enum Ending {
     // the next step is refused
     Refused(StepRefusal),
@@ -46,14 +38,25 @@ fn cycles<M: Memory>(
 ) -> anyhow::Result<()> {
     for _ in 0..count {
         let before = machine.state();
+        let word = store.word(before.mpc);
         machine.cycle(store)?;
         let after = machine.state();
         let number = after.counter;
         let line = label(before.mpc);
+        let operations = Operations(&word);
         let changes = Changes { before, after };
-        println!(rt; "{number} {line}:{changes}")?;
+        println!(rt; "{number} {line}: {operations}{changes}")?;
     }
     Ok(())
+}
+
+// Where the program of a machine is.
+fn place<M: Memory>(machine: &Machine<M>) -> Place {
+    let Registers { pc, lv, .. } = machine.state().registers;
+    Place {
+        address: pc,
+        frame: lv,
+    }
 }
 
 // Performs the instructions of two machines with the same program. One is stepped, and tells how many cycles the instruction takes or why it is refused; the other does these cycles one by one.
@@ -61,50 +64,80 @@ fn trace<R: Print + AllocGlobal, M: Memory>(
     rt: &R,
     stepped: &mut Machine<M>,
     traced: &mut Machine<M>,
+    code: Code<'_>,
 ) -> anyhow::Result<(Vec<Performed>, Ending)> {
     let mut performed = Vec::new(rt.alloc());
     let store = published_store();
     for _ in 0..MOST_INSTRUCTIONS {
-        let start = traced.state();
-        match stepped.step() {
-            Err(refusal) => return Ok((performed, Ending::Refused(refusal))),
-            Ok(count) => {
-                let total = stepped.state().counter;
-                if total > MOST_CYCLES {
-                    break;
-                }
-                cycles(rt, traced, &store, count)?;
-                let opcode = Opcode(start.mbr);
-                println!(rt; "{opcode}: {count} cycles, {total} in all")?;
-                performed.push(Performed {
-                    address: start.registers.pc,
-                    frame: start.registers.lv,
-                    opcode,
-                    cycles: count,
-                })?;
+        let start = place(traced);
+        let pc = start.address;
+        let instruction = Instruction(code.bytes(pc));
+        let count = match stepped.step() {
+            Ok(count) => count,
+            Err(refusal) => {
+                println!(rt; "PC {pc}: {instruction}: {refusal}")?;
+                return Ok((performed, Ending::Refused(refusal)));
             }
+        };
+        let total = stepped.state().counter;
+        if total > MOST_CYCLES {
+            break;
         }
+        cycles(rt, traced, &store, count)?;
+        let done = Performed {
+            place: start,
+            instruction,
+            way: Way::of(&instruction, count, place(traced).address),
+            cycles: count,
+            total,
+        };
+        println!(rt; "{done}")?;
+        performed.push(done)?;
     }
     Ok((performed, Ending::Cut))
 }
 
-/// Loads the image into both machines, traces its program, and prints where the cycles of its loop come from. The first machine is stepped, the second does the same cycles one by one. Of an image that is refused the refusal is printed (docs/trace.md).
-pub fn run<R: Print + AllocGlobal, M: Memory>(
-    rt: &R,
+// A machine over these words, in which no program is loaded.
+fn powered(words: &mut [u32]) -> Machine<WordMemory<'_>> {
+    Machine::power(WordMemory::make(words), Registers::default(), 0, 0)
+}
+
+// Loads an image into both machines.
+fn loaded<'a, M: Memory>(
     stepped: &mut Machine<M>,
     traced: &mut Machine<M>,
-    image: &[u8],
-) -> anyhow::Result<()> {
-    if let Err(refusal) = load(stepped, image) {
-        println!(rt; "{refusal}")?;
-        return Ok(());
+    bytes: &'a [u8],
+) -> Result<Image<'a>, LoadRefusal> {
+    let image = Image::of(bytes)?;
+    stepped.load(&image)?;
+    traced.load(&image)?;
+    Ok(image)
+}
+
+// Prints why an image is refused. The memory is made for the image, so 25 comes only where the image asks for a larger one than is made; then it is told which are made.
+fn print_refusal(rt: &impl Print, refusal: LoadRefusal) -> anyhow::Result<()> {
+    println!(rt; "{refusal}")?;
+    if refusal == LoadRefusal::OtherSize {
+        println!(rt; "the program makes memories of 16 to 8192 words")?;
     }
-    load(traced, image)?;
-    let (performed, ending) = trace(rt, stepped, traced)?;
-    if let Ending::Refused(refusal) = ending {
-        println!(rt; "{refusal}")?;
-    }
-    report(rt, performed.as_slice())?;
+    Ok(())
+}
+
+/// Traces the program of an image, and prints where the cycles of its loops come from. Of an image that is refused the refusal is printed (docs/trace.md).
+pub fn run<R: Print + AllocGlobal>(rt: &R, bytes: &[u8]) -> anyhow::Result<()> {
+    let size = memory_size(bytes);
+    let mut stepped_words = vec![in rt.alloc(); 0u32; size]?;
+    let mut traced_words = vec![in rt.alloc(); 0u32; size]?;
+    let mut stepped = powered(&mut stepped_words);
+    let mut traced = powered(&mut traced_words);
+    let image = match loaded(&mut stepped, &mut traced, bytes) {
+        Ok(image) => image,
+        Err(refusal) => return print_refusal(rt, refusal),
+    };
+    let (performed, ending) = trace(rt, &mut stepped, &mut traced, Code(image))?;
+    let returned = ending == Ending::Refused(StepRefusal::End);
+    let end = (!returned).then(|| place(&traced));
+    print_loops(rt, &performed, end)?;
     if ending == Ending::Cut {
         println!(rt; "cut off: the next instruction goes past {MOST_CYCLES} cycles")?;
     }

@@ -1,96 +1,112 @@
-// Where the cycles of the loop come from.
-use crate::run::Performed;
+// The turns of a loop.
+use crate::loops::Loop;
+use crate::parts::{Parts, Term};
+use crate::performed::Place;
+use crate::visits::{Event, Visit};
+use std::alloc::{AllocError, Global};
 use std::fmt;
 
-// Instructions, displayed as the sum of their cycles.
-#[derive(Clone, Copy, Debug, PartialEq, Eq)]
-struct Sum<'a>(&'a [Performed]);
+/// A turn of a loop, displayed as its line (docs/trace.md).
+#[derive(Drop)]
+pub struct Turn<'a> {
+    // the number of its visit, where the loop was entered more than once
+    visit_number: Option<u64>,
+    // its own number in the visit
+    number: u64,
+    // whether the trace ends in it
+    unfinished: bool,
+    visit: Visit,
+    events: &'a [Event],
+}
 
-impl Sum<'_> {
-    // Wrapping, since nothing bounds how many there are.
-    fn value(&self) -> u64 {
-        self.0
-            .iter()
-            .fold(0, |sum: u64, done| sum.wrapping_add(done.cycles))
+impl<'a> Turn<'a> {
+    /// Its parts.
+    pub fn parts(&self) -> Parts<'a> {
+        Parts {
+            visit: self.visit,
+            left: self.events,
+        }
     }
 }
 
-impl fmt::Display for Sum<'_> {
+impl fmt::Display for Turn<'_> {
     fn fmt<W: fmt::Write>(&self, f: &mut fmt::Formatter<W>) -> fmt::Result {
-        for (index, done) in self.0.iter().enumerate() {
-            if index > 0 {
-                write!(f, " + ")?;
-            }
-            write!(f, "{}", done.cycles)?;
+        if let Some(number) = self.visit_number {
+            write!(f, "visit {number}, ")?;
         }
-        write!(f, " = {}", self.value())
-    }
-}
-
-// The loop of a program: the frame that it runs in, the address of its head, and that of the jump back to there.
-#[derive(Clone, Copy, Debug, PartialEq, Eq)]
-struct Loop {
-    frame: u32,
-    head: u32,
-    jump: u32,
-}
-
-impl Loop {
-    // The loop of the first jump back that was performed. Calls and returns are none: they go to another frame.
-    fn first(performed: &[Performed]) -> Option<Loop> {
-        performed
-            .iter()
-            .zip(performed.iter().skip(1))
-            .find(|(done, next)| next.frame == done.frame && next.address <= done.address)
-            .map(|(done, next)| Loop {
-                frame: next.frame,
-                head: next.address,
-                jump: done.address,
-            })
-    }
-
-    // Whether an instruction is the one at the head.
-    fn begins(&self, done: &Performed) -> bool {
-        done.frame == self.frame && done.address == self.head
-    }
-
-    // Whether an instruction can belong to a turn: it lies between head and jump, or in a method that is called.
-    fn holds(&self, done: &Performed) -> bool {
-        if done.frame == self.frame {
-            (self.head..=self.jump).contains(&done.address)
-        } else {
-            done.frame > self.frame
+        write!(f, "turn {}", self.number)?;
+        if self.unfinished {
+            write!(f, ", unfinished")?;
         }
+        let mut sum: u64 = 0;
+        for (index, part) in self.parts().enumerate() {
+            f.write_str(if index == 0 { ": " } else { " + " })?;
+            // wrapping, since nothing bounds how many there are
+            sum = sum.wrapping_add(part.cycles());
+            write!(f, "{}", Term(part))?;
+        }
+        write!(f, " = {sum}")
     }
 }
 
-// The first turn with its instructions, and each turn's sum. A turn begins at the head of the loop, and ends before the next or where the loop is left.
-fn report_loop<R: Print + AllocGlobal>(
-    rt: &R,
-    performed: &[Performed],
+// A visit of a loop, with all its instructions.
+#[derive(Drop)]
+struct Course<'a> {
+    visit: Visit,
+    events: &'a [Event],
+}
+
+// The visits of a loop, in the order in which they begin.
+fn courses<'a>(
+    heap: Global,
     round: Loop,
-) -> anyhow::Result<()> {
-    let turns = performed
-        .chunk_by(|done, next| !round.begins(next) && round.holds(done) == round.holds(next))
-        .filter(|part| part.first().is_some_and(|done| round.begins(done)))
-        .collect::<Vec<&[Performed]>>(rt.alloc())?;
-    let Loop { head, jump, .. } = round;
-    println!(rt; "the first turn of the loop from {head} to {jump}: address, instruction, cycles")?;
-    for done in turns.first().copied().unwrap_or_default() {
-        println!(rt; "  {} {} {}", done.address, done.opcode, done.cycles)?;
+    events: &'a [Event],
+) -> Result<Vec<Course<'a>>, AllocError> {
+    let mut courses = Vec::new(heap);
+    for (index, event) in events.iter().enumerate() {
+        let Some(visit) = event.entered.filter(|visit| visit.round == round) else {
+            continue;
+        };
+        let left = events.get(index..).unwrap_or_default();
+        let under_way = left.chunk_by(|_, next| visit.holds(next.done.place)).next();
+        courses.push(Course {
+            visit,
+            events: under_way.unwrap_or_default(),
+        })?;
     }
-    for (number, turn) in (1u64..).zip(turns) {
-        println!(rt; "turn {number}: {}", Sum(turn))?;
-    }
-    Ok(())
+    Ok(courses)
 }
 
-/// Prints the turns of the loop of the first jump back, if there is one, and the cycles of all instructions (docs/trace.md).
-pub fn report<R: Print + AllocGlobal>(rt: &R, performed: &[Performed]) -> anyhow::Result<()> {
-    match Loop::first(performed) {
-        Some(round) => report_loop(rt, performed, round)?,
-        None => println!(rt; "no jump back was performed")?,
+// The cycles so far, when the last of some instructions was performed.
+fn total(events: &[Event]) -> Option<u64> {
+    events.last().map(|event| event.done.total)
+}
+
+/// The turns of a loop, visit by visit. `end` is where the program was behind the last instruction, and none where main has returned: a turn is unfinished where the loop is still under way there, and the place is not its head (docs/trace.md).
+pub fn turns_of<'a>(
+    heap: Global,
+    round: Loop,
+    events: &'a [Event],
+    end: Option<Place>,
+) -> Result<Vec<Turn<'a>>, AllocError> {
+    let courses = courses(heap, round, events)?;
+    let several = courses.len() > 1;
+    let mut turns = Vec::new(heap);
+    for (count, course) in (1u64..).zip(&courses) {
+        let visit = course.visit;
+        let parted = course
+            .events
+            .chunk_by(|_, next| !visit.begins_turn(next.done.place));
+        let ends_within = end.is_some_and(|end| visit.holds(end) && !visit.begins_turn(end));
+        for (number, turn) in (1u64..).zip(parted) {
+            turns.push(Turn {
+                visit_number: several.then_some(count),
+                number,
+                unfinished: ends_within && total(turn) == total(events),
+                visit,
+                events: turn,
+            })?;
+        }
     }
-    println!(rt; "in all: {}", Sum(performed).value())?;
-    Ok(())
+    Ok(turns)
 }
