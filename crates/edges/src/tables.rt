@@ -1,6 +1,8 @@
-// The slides' tables: the ALU's functions, the bus codes, the shifter, and control words in the slides' notation.
+// The slides' tables: the ALU's functions, the bus codes, the shifter, control words in the slides' notation, and microinstruction control.
 use anyhow::Result;
-use control::{ControlWord, Registers, Source, alu, bus, decode, encode, shift};
+use control::{ControlStore, ControlWord, Registers, Source, alu, bus, decode, encode, shift};
+use datapath::Datapath;
+use memory::WordMemory;
 use notation::{Bits, Operations};
 
 const O: bool = false;
@@ -141,7 +143,37 @@ fn word_table(rt: &impl Print) -> Result<()> {
     Ok(())
 }
 
-/// Prints the tables as the machine computes them: the ALU's functions, the bus codes, the shifter, and control words as text (docs/edges.md).
+// A word that jumps on Z, and its address: NEXT is 0x092, JAM 001, the ALU's function B, and OPC is on the bus.
+const JUMP: u64 = 0x4_9114_0008;
+
+const JUMP_ADDRESS: u16 = 0x75;
+
+// The word is done with 0 and with other numbers in OPC: Z, and the successor that it goes to.
+fn successor_table(rt: &impl Print) -> Result<()> {
+    let word = decode(JUMP)?;
+    println!(rt; "  0x{JUMP_ADDRESS:03X} {}", Operations(&word))?;
+    let mut numbers = [0u64; 512];
+    numbers[0x75] = JUMP;
+    let mut store = ControlStore::new();
+    store.fill(&numbers)?;
+    for value in [0, 1, -1i32] {
+        let registers = Registers {
+            opc: value.cast_unsigned(),
+            ..Registers::default()
+        };
+        let on_bus = bus(Source::of(word.b), &registers, 0);
+        let (_, _, z) = alu(&word, registers.h, on_bus);
+        let mut words = [0; 16];
+        let memory = WordMemory::make(&mut words);
+        let mut machine = Datapath::power(memory, registers, 0, JUMP_ADDRESS);
+        machine.cycle(&store)?;
+        let (z, mpc) = (u8::from(z), machine.state().mpc);
+        println!(rt; "    OPC = {value}: Z={z}, then MPC 0x{mpc:03X}")?;
+    }
+    Ok(())
+}
+
+/// Prints the tables as the machine computes them: the ALU's functions, the bus codes, the shifter, control words as text, and the successors of a word that jumps (docs/edges.md).
 pub fn tables(rt: &impl Print) -> Result<()> {
     println!(rt; "THE ALU: F0 F1 ENA ENB INVA INC, the function, its result")?;
     for (a, b) in OPERANDS {
@@ -153,5 +185,9 @@ pub fn tables(rt: &impl Print) -> Result<()> {
     shift_table(rt)?;
     println!(rt; "CONTROL WORDS: number, operations, and the number that encode gives back")?;
     word_table(rt)?;
+    println!(rt;
+        "MICROINSTRUCTION CONTROL: a word at 0x075 with NEXT 0x092 and JAM 001, which has two successors"
+    )?;
+    successor_table(rt)?;
     Ok(())
 }
