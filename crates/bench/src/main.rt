@@ -5,13 +5,10 @@ use control::Registers;
 use ijvm::{Machine, Ran};
 use image::{Answer, Call, load, perform};
 use memory::{Cell, LentMemory, Memory};
-use report::memory_size;
+use report::{MOST_BYTES, memory_size};
 use std::io::Read;
 use std::rt::Clock;
 use std::time::Instant;
-
-// As many bytes of the image as are read.
-const MOST_BYTES: u64 = 32_768;
 
 // As many steps as are made.
 const MOST_STEPS: u64 = 10_000_000;
@@ -71,7 +68,7 @@ fn timed<C: Cell, R: Print + Clock>(
 fn main(rt: HostRuntime) -> anyhow::Result<()> {
     let heap = rt.alloc();
     let mut image = Vec::new(heap);
-    rt.stdin().take(MOST_BYTES).read_to_end(&mut image)?;
+    rt.stdin().take(MOST_BYTES as u64).read_to_end(&mut image)?;
     let size = memory_size(&image);
     let mut words = vec![in heap; 0u32; size]?;
     let mut bytes = vec![in heap; 0u8; 4 * size]?;

@@ -153,7 +153,7 @@ fn successor_table(rt: &impl Print) -> Result<()> {
     let word = decode(JUMP)?;
     println!(rt; "  0x{JUMP_ADDRESS:03X} {}", Operations(&word))?;
     let mut numbers = [0u64; 512];
-    numbers[0x75] = JUMP;
+    numbers[usize::from(JUMP_ADDRESS)] = JUMP;
     let mut store = ControlStore::new();
     store.fill(&numbers)?;
     for value in [0, 1, -1i32] {

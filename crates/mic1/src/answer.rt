@@ -3,16 +3,14 @@ use crate::ending::Ending;
 use control::Registers;
 use ijvm::Machine;
 use memory::WordMemory;
-use report::{memory_size, run_image};
+use report::{MOST_BYTES, memory_size, run_image};
 use std::alloc::Global;
 use std::io::Write;
 
-// The most bytes that an image may have, and the most steps that are made.
-const MOST_BYTES: usize = 32_768;
-
+// The most steps that are made.
 const MOST_STEPS: u64 = 1_000_000;
 
-/// As many bytes of the input are read: one more than an image may have, which tells whether the input is longer (docs/program.md).
+/// As many bytes of the input are read: one more than the image may have, which tells whether the input is longer (docs/program.md).
 pub const READ_BYTES: u64 = MOST_BYTES as u64 + 1;
 
 /// Runs the image in the input, writes the four lines of its report to `out`, and to `errors` why main has not returned, if it has not. Where `errors` takes no text, that is left out; the four lines and the answer are the same (docs/program.md).

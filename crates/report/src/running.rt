@@ -13,6 +13,9 @@ use ijvm::{Machine, Ran};
 use image::{Answer, Call, perform};
 use memory::{Cell, LentMemory, Memory};
 
+/// The most bytes that the programs read of an image: 64 blocks (docs/program.md).
+pub const MOST_BYTES: usize = 32_768;
+
 /// The size of the memory for an image, in words: the image's word 1, if that is there and from 16 to 8,192; else 8,192 (docs/program.md).
 pub fn memory_size(bytes: &[u8]) -> usize
     ensures { result ≡ memory_size_of bytes.now }

@@ -1,13 +1,11 @@
 // The images that are traced, and where they are read from.
 use anyhow::Context;
+use report::MOST_BYTES;
 use std::alloc::Global;
 use std::fs::File;
 use std::io::Read;
 use std::rt::Files;
 use std::{fmt, io};
-
-// As many bytes of an image as are read.
-const MOST_BYTES: usize = 32_768;
 
 /// Where an image is read from, displayed as its name (docs/trace.md).
 #[derive(Clone, Copy)]
