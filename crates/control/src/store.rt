@@ -1,5 +1,5 @@
 // The control store.
-ghost use Rattle.std.specs.Prelude.{◌≡◌, ◌%◌, ◌^◌, ◌<◌, length, map, replicate, IfSome, IsOk, Ok, slice_index};
+ghost use Rattle.std.specs.Prelude.{◌≡◌, ◌%◌, ◌^◌, ◌<◌, length, map, replicate, IfSome, IsOk, Ok, OnErr, slice_index};
 ghost use Rattle.control.specs.Control.{fields_of, decode_of};
 ghost use Rattle.control.specs.PreparedWords.{word_of};
 ghost use Rattle.control.specs.Store.{AllAccepted, first_refused, fill_of, filled_of, number_at};
@@ -36,12 +36,22 @@ impl ControlStore {
         ensures answer { result ≡ fill_of numbers.now }
         ensures after { numbers_in self.new ≡ filled_of (numbers_in self.old) numbers.now }
         ensures accepted { AllAccepted (numbers_in self.new) }
+        ensures kept { OnErr result (self.new ≡ self.old) }
     {
-        let numbers = <[u64; 512]>::try_from(numbers).map_err(|_| FillRefusal::WrongCount)?;
-        check_numbers(&numbers)?;
-        self.words = prepared(&numbers);
-        self.numbers = numbers;
+        let numbers = <&[u64; 512]>::try_from(numbers).map_err(|_| FillRefusal::WrongCount)?;
+        check_numbers(numbers)?;
+        self.hold(numbers);
         Ok(())
+    }
+
+    // Holds numbers that decode accepts. Apart from `fill`, since the words that are prepared are large, and a refused fill needs no room for them.
+    #[inline(never)]
+    fn hold(&mut self, numbers: &[u64; 512])
+        requires { AllAccepted numbers.now }
+        ensures { numbers_in self.new ≡ numbers.now }
+    {
+        self.words = prepared(numbers);
+        self.numbers = *numbers;
     }
 
     /// The number at an address, which decode accepts, and none above 511 (docs/control-words.md).
